@@ -3,7 +3,7 @@ use Rattle.std.proofs.Common.{◌≡◌, ℕ, Bool, true, false, [], refl, sym, 
 use Rattle.std.specs.Prelude.{◌↔◌}
 use Rattle.sr_message.specs.declared.message.Message.{Message}
 use Rattle.sr_model.specs.Queries.{Query}
-use Rattle.sr_store.specs.Brought.{nothing_told, IsToldOf}
+use Rattle.sr_store.specs.Brought.{IsToldOf}
 use Rattle.sr_store.specs.Told.{Told}
 use Rattle.sr_wire.specs.declared.bad_frame.BadFrame.{BadFrame}
 use Rattle.sr_session.specs.Brought.{told_after}
@@ -16,22 +16,13 @@ use Rattle.sr_client.specs.declared.steps.Took.TheVariants as took
 use Rattle.sr_client.specs.Stands as client
 use Rattle.sr_client.specs.Stands.{Stays, StandsFor, cuts_down, given_up, out_of, past_of}
 use Rattle.sr_client.specs.Steps.{Evicts, Queries, Takes, is_bad}
-use Rattle.sr_client.proofs.ByToldLemmas.{nothing-is-told, told-none}
 use Rattle.sr_calls.specs.ClientEnds.{IsReady}
 use Rattle.sr_calls.specs.Short.{HoldsShort, TellsShort}
 use Rattle.sr_calls.proofs.Kept.{format_stays}
-use Rattle.sr_calls.proofs.ShortLemmas.{fit-short, laid-short, nothing-short, where-short}
+use Rattle.sr_calls.proofs.ShortLemmas.{fit-short, laid-short, none_held, where-short}
 use Rattle.sr_calls.proofs.TakeLemmas.{fits_message}
 
 -- ---- what is held
-
--- nothing
-pub none_held : (c : Client) → c.store.regions ≡ [] → HoldsShort c
-none_held c none = record {
-  told = nothing_told;
-  is = subst (IsToldOf c.schema nothing_told) (sym none) (told-none c.schema nothing_told (nothing-is-told c.schema));
-  short = nothing-short;
-}
 
 given_held : (old new : Client) → new ≡ given_up old (cuts_down old) → HoldsShort new
 given_held old new is = none_held new (ap (λ (c : Client). c.store.regions) is)

@@ -1,7 +1,8 @@
 -- A client over an honest link.
-use Rattle.std.proofs.Common.{◌≡◌, ℕ, Bool, true, List, [], ◌∷◌, ◌++◌, refl, sym, ap, subst, arith}
+use Rattle.std.proofs.Common.{◌≡◌, ℕ, ◌<◌, Bool, true, List, length, [], ◌∷◌, ◌++◌, refl, sym, ap, subst, arith}
 use Rattle.std.specs.List.{list_all}
 use Rattle.sr_cell.specs.declared.table.Table.{Table}
+use Rattle.sr_model.specs.Statements.{Tables}
 use Rattle.sr_policy.specs.declared.policy.Limits.{Limits}
 use Rattle.sr_query.specs.Bound.{is_table}
 use Rattle.sr_store.specs.Brought.{nothing_told}
@@ -16,7 +17,7 @@ use Rattle.sr_client.proofs.ByToldLemmas.{nothing-is-told, told-none}
 use Rattle.sr_client.proofs.LayLemmas.{out-keys}
 use Rattle.sr_client.proofs.TableLemmas.{are-told}
 use Rattle.sr_links.specs.Answers.{AsksKeys}
-use Rattle.sr_links.specs.Honest.{Rests, Server, server_at_last}
+use Rattle.sr_links.specs.Honest.{Input, Rests, Server, server_at_last}
 use Rattle.sr_links.proofs.DatabaseLemmas.{last-more, sound-before}
 use Rattle.sr_server.specs.Servers.{Gives}
 use Rattle.sr_talk.specs.Rounds.{at_rest}
@@ -24,10 +25,11 @@ use Rattle.sr_dial.specs.Honest.{IsTrue}
 use Rattle.sr_dial.specs.Served.{HaveInputs}
 use Rattle.sr_dial.proofs.ServedLemmas.{served-calls-are-explained}
 use Rattle.sr_dial.proofs.HonestLemmas.{are-asked}
+use Rattle.sr_dial.proofs.LimitLemmas.{scripts-few}
 use Rattle.sr_dial.proofs.TrueLemmas.{honest-runs-are-true}
 use Rattle.sr_dial.proofs.TrueLemmas as dial
 use Rattle.sr_calls.specs.ClientEnds.{End, HasTold, IsEnd, setting_of}
-use Rattle.sr_calls.specs.Honest.{BrokenRunsGoByTold, HonestRunsAreTrue, NewHonestRunsAreTrue, RunsFromAnyClientGoByTold, RunsGoByTold, ScriptsAreAskedFor, ServedRunsAreTrue}
+use Rattle.sr_calls.specs.Honest.{BrokenRunsGoByTold, HonestRunsAreShort, HonestRunsAreTrue, NewHonestRunsAreShort, NewHonestRunsAreTrue, RunsFromAnyClientGoByTold, RunsGoByTold, ScriptsAreAskedFor, ScriptsAskFew, ServedRunsAreTrue}
 use Rattle.sr_calls.specs.Runs.{new_end, new_past}
 use Rattle.sr_calls.proofs.RunLemmas.{new_stands}
 
@@ -66,24 +68,38 @@ runs-from-any-client-are-true s pieces end left past address plan ended old new 
     honest-runs-are-true IsEnd HasTold (setting_of end) s pieces end past address plan ended old new before after (told_of (tables_of s.database past.version))
     asks-keys tables rests keeps (has-rows s.database end past end.client.schema h.schema_is sound rests) asked run.run h
 
+-- at first nothing is out
+module _ (id : ℕ) (schema : List Table) (limits : Limits) (keeps says : Bool) (s : Server) (pieces : List (List Input)) (begins : (tables : Tables) → IsEnd schema (new_end id schema limits keeps says) new_past tables) (same : s.database.schema ≡ schema) where
+  new-rests : Rests IsEnd s.database (new_end id schema limits keeps says) new_past
+  new-rests = record {
+    cut = refl;
+    out = refl;
+    laid = refl;
+    version = omega arith;
+    is = subst (λ own. IsEnd own (new_end id schema limits keeps says) new_past (tables_of s.database 0)) (sym same) (begins (tables_of s.database 0));
+  }
+
+  -- nothing is held
+  new-budgets : 0 < length s.database.versions → IsSound (server_at_last s pieces).database → KeepsToBudgets (basis_of s.database limits) new_past
+  new-budgets some last =
+      let sound = sound-before s.database (server_at_last s pieces).database some (last-more s pieces some).grows last in
+      nothing-held (basis_of s.database limits) (newest s.database) (is-count (record { database = s.database; limits = limits; pairs = [] }) sound.tables) new_past (omega arith) (λ t a p point. refl)
+
 pub new-honest-runs-are-true : NewHonestRunsAreTrue
 new-honest-runs-are-true id address schema limits keeps says s pieces plan ended old new before after asked run h =
-    runs-from-any-client-are-true s pieces (new_end id schema limits keeps says) run.left new_past address plan ended old new before after (run.begins []).1.facts.tables rests budgets asked run.ran h
-  where
-    rests : Rests IsEnd s.database (new_end id schema limits keeps says) new_past
-    rests = record {
-      cut = refl;
-      out = refl;
-      laid = refl;
-      version = omega arith;
-      is = subst (λ own. IsEnd own (new_end id schema limits keeps says) new_past (tables_of s.database 0)) (sym h.schema_is) (run.begins (tables_of s.database 0));
-    }
+    runs-from-any-client-are-true s pieces (new_end id schema limits keeps says) run.left new_past address plan ended old new before after (run.begins []).1.facts.tables
+    (new-rests id schema limits keeps says s pieces run.begins h.schema_is) (new-budgets id schema limits keeps says s pieces run.begins h.schema_is h.some h.sound) asked run.ran h
 
-    -- nothing is held
-    budgets : KeepsToBudgets (basis_of s.database limits) new_past
-    budgets =
-        let sound = sound-before s.database (server_at_last s pieces).database h.some (last-more s pieces h.some).grows h.sound in
-        nothing-held (basis_of s.database limits) (newest s.database) (is-count (record { database = s.database; limits = limits; pairs = [] }) sound.tables) new_past (omega arith) (λ t a p point. refl)
+pub runs-from-any-client-are-short : HonestRunsAreShort
+runs-from-any-client-are-short s pieces end left past address plan ended old new before after tables rests asked few run h limit rows =
+    let sound = sound-before s.database (server_at_last s pieces).database h.some (last-more s pieces h.some).grows h.sound in
+    dial.honest-runs-are-short IsEnd HasTold (setting_of end) s pieces end past address plan ended old new before after (told_of (tables_of s.database past.version))
+    asks-keys tables rests (has-rows s.database end past end.client.schema h.schema_is sound rests) asked run.run h limit rows few
+
+pub new-honest-runs-are-short : NewHonestRunsAreShort
+new-honest-runs-are-short id address schema limits keeps says s pieces plan ended old new before after asked few run h limit rows =
+    runs-from-any-client-are-short s pieces (new_end id schema limits keeps says) run.left new_past address plan ended old new before after (run.begins []).1.facts.tables
+    (new-rests id schema limits keeps says s pieces run.begins h.schema_is) asked few run.ran h limit rows
 
 pub served-runs-are-true : ServedRunsAreTrue
 served-runs-are-true id address schema limits keeps says db last talks plan ended old new before after asked run same some sound served =
@@ -95,3 +111,6 @@ served-runs-are-true id address schema limits keeps says db last talks plan ende
 
 pub scripts-are-asked-for : ScriptsAreAskedFor
 scripts-are-asked-for schema lines script are = (tt, λ answer. are-asked schema lines script are)
+
+pub scripts-ask-few : ScriptsAskFew
+scripts-ask-few schema lines script are = (tt, λ answer. scripts-few schema lines script are)

@@ -46,7 +46,7 @@ use Rattle.sr_image.specs.Writing.{may_write_image, may_write_kept, may_write_re
 use Rattle.sr_image.proofs.Writable.{may-be-written}
 use Rattle.sr_calls.specs.ClientEnds.{IsReady}
 use Rattle.sr_calls.specs.Short.{is_short, HoldsShort, TellsShort}
-use Rattle.sr_calls.proofs.HoldLemmas.{none_held}
+use Rattle.sr_calls.proofs.ShortLemmas.{none_held}
 
 -- ---- what may be written
 
@@ -118,17 +118,16 @@ short-of (row ∷ rows) may =
 
 kept-short : (kept : List Kept) → list_all may_write_kept kept ≡ true → TellsShort (kept_rows kept)
 kept-short [] may t a = refl
-kept-short (k ∷ kept) may t a = go (k.table == t && k.attrs == a)
+kept-short (k ∷ kept) may t a = go (k.table == t && k.attrs == a) (kept-short kept (second_so (may_write_kept k) (list_all may_write_kept kept) may) t a)
   where
-    own : may_write_kept k ≡ true
-    own = first_so (may_write_kept k) (list_all may_write_kept kept) may
-
     rows : list_all may_write_row k.rows ≡ true
-    rows = second_so (nat_le (length k.rows) 200000) (list_all may_write_row k.rows) (second_so (may_write_rects k.rects) (nat_le (length k.rows) 200000 && list_all may_write_row k.rows) own)
+    rows =
+        second_so (nat_le (length k.rows) 200000) (list_all may_write_row k.rows)
+        (second_so (may_write_rects k.rects) (nat_le (length k.rows) 200000 && list_all may_write_row k.rows) (first_so (may_write_kept k) (list_all may_write_kept kept) may))
 
-    go : (b : Bool) → list_all is_short (if b then k.rows else kept_rows kept t a) ≡ true
-    go true = short-of k.rows rows
-    go false = kept-short kept (second_so (may_write_kept k) (list_all may_write_kept kept) may) t a
+    go : (b : Bool) → list_all is_short (kept_rows kept t a) ≡ true → list_all is_short (if b then k.rows else kept_rows kept t a) ≡ true
+    go true others = short-of k.rows rows
+    go false others = others
 
 kept-rects : (kept : List Kept) → list_all may_write_kept kept ≡ true → MayBeWritten kept
 kept-rects [] may = All-nil (λ (k : Kept). list_all may_write_rect k.rects ≡ true)

@@ -1,6 +1,6 @@
 -- What comes to a client has short texts, and so has what it holds then.
-use Rattle.std.proofs.Common.{◌≡◌, ℕ, ◌+◌, Bool, true, false, List, [], ◌∷◌, ◌++◌, length, refl, sym, ◌∙◌, ap, subst, Option, Some, None, Result, Ok, Err}
-use Rattle.std.specs.Prelude.{not, ◌&&◌, ◌==◌, ◌↔◌, nat_lt, nat_le, filter, IfOk, OnErr, if◌then◌else◌}
+use Rattle.std.proofs.Common.{◌≡◌, ℕ, ◌+◌, Bool, true, false, List, [], ◌∷◌, ◌++◌, length, refl, sym, ◌∙◌, subst, Option, Some, None}
+use Rattle.std.specs.Prelude.{not, ◌&&◌, ◌==◌, nat_lt, nat_le, filter, if◌then◌else◌}
 use Rattle.std.specs.List.{list_all}
 use Rattle.std.specs.Cmp.{first_so, second_so}
 use Rattle.std.specs.Cmp.Derive.{both_true}
@@ -18,7 +18,6 @@ use Rattle.sr_message.specs.declared.message.AskPart.{AskPart}
 use Rattle.sr_message.specs.declared.message.Message.{Message}
 use Rattle.sr_message.specs.declared.message.Message.TheVariants.{Hello, Resume, Ask, Write, Welcome, Notice, Rows, Reply, Written, Refused, Lapse}
 use Rattle.sr_message.specs.declared.message.Tell.{Tell}
-use Rattle.sr_model.specs.Queries.{Query}
 use Rattle.sr_model.specs.SortedRows.{with_row, with_rows}
 use Rattle.sr_rows.specs.Keys.{without_key}
 use Rattle.sr_rows.proofs.Elements.{list_all-with_row}
@@ -26,17 +25,18 @@ use Rattle.sr_region.specs.Regions.{rank, is_in}
 use Rattle.sr_store.specs.declared.store.Arrival.{Arrival}
 use Rattle.sr_store.specs.Brought.{nothing_told, with_cells, after_all, tells, tells_all, stays_beside, arrives_in, arrive_in, IsToldOf}
 use Rattle.sr_store.specs.Told.{Told}
-use Rattle.sr_wire.specs.declared.bad_frame.BadFrame.{BadFrame}
 use Rattle.sr_wire.specs.declared.bad_frame.BadFrame.TheVariants.{State, Number, Version, Shape}
 use Rattle.sr_session.specs.Arrivals.{arrived_at, arrivals_from, arrivals_of}
-use Rattle.sr_session.specs.Brought.{told_by, told_by_all, told_by_reply, told_where, told_after}
+use Rattle.sr_session.specs.Brought.{told_by, told_by_all, told_by_reply, told_where}
 use Rattle.sr_session.specs.Misfits.{misfit, or_else, known, is_ask, is_number, parts_of, cells_fit, ask_at, fit_ask, rows_suit, tell_suits, tells_ascend, told_suits}
 use Rattle.sr_session.specs.Rules.{is_given_up}
 use Rattle.sr_session.specs.Walks.{Request, AskOut, WriteOut, ResumeOut}
 use Rattle.sr_server.proofs.Sending.{cell-short, cells-short, projected-cells}
+use Rattle.sr_client.specs.declared.client.Client.{Client}
 use Rattle.sr_client.specs.Stands.{AreFit}
+use Rattle.sr_client.proofs.ByToldLemmas.{nothing-is-told, told-none}
 use Rattle.sr_client.proofs.SuitLemmas.{not-false, or-none, or-later}
-use Rattle.sr_calls.specs.Short.{is_short, TellsShort}
+use Rattle.sr_calls.specs.Short.{is_short, HoldsShort, TellsShort}
 
 -- ---- rows
 
@@ -199,3 +199,13 @@ fit-short schema out laid version m fit = refl
 pub laid-short : (schema : List Table) (out : Option Request) (version : ℕ) (pre ms : List Message) → AreFit schema out version pre ms → list_all brings_short ms ≡ true
 laid-short schema out version pre [] fit = refl
 laid-short schema out version pre (m ∷ ms) fit = both_true (fit-short schema out pre version m fit.0) (laid-short schema out version (pre ++ m ∷ []) ms fit.1)
+
+-- ---- what is held
+
+-- nothing
+pub none_held : (c : Client) → c.store.regions ≡ [] → HoldsShort c
+none_held c none = record {
+  told = nothing_told;
+  is = subst (IsToldOf c.schema nothing_told) (sym none) (told-none c.schema nothing_told (nothing-is-told c.schema));
+  short = nothing-short;
+}

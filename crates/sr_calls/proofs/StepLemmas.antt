@@ -12,7 +12,7 @@ use Rattle.sr_message.specs.declared.message.Message.TheVariants as kinds
 use Rattle.sr_model.specs.Queries.{Query}
 use Rattle.sr_script.specs.declared.line.TraceLine.{TraceLine}
 use Rattle.sr_script.specs.declared.line.TraceLine.TheVariants as line
-use Rattle.sr_store.specs.Brought.{IsToldOf}
+use Rattle.sr_store.specs.Brought as brought
 use Rattle.sr_session.specs.Clients as session
 use Rattle.sr_session.specs.Rules as rules
 use Rattle.sr_session.specs.Refusals.{is_request_of}
@@ -116,7 +116,7 @@ module _ {E : Type 0} (old new : Client) (sql : List ℕ) (step : WriteStep) (to
       let t = tells m.outcome m.is in
       if_ok (Did keeps old new past (Wrote sql)) r (done_of told None) is
       (makes keeps old new past (Wrote sql) (SaysWrite sql step) (λ db. Unit {0}) (λ db. rules.WriteStep sql past) m (plain_from old.id m.outcome (write_plain sql step m.outcome m.is)) (λ db o next rule. writes o next short rule) (λ db come. tt)
-      stays (λ told is. (subst (IsToldOf old.schema told) (sym held) is, writes m.outcome m.next short ((does short).ruled past stands)))
+      stays (λ told is. (subst (brought.IsToldOf old.schema told) (sym held) is, writes m.outcome m.next short ((does short).ruled past stands)))
       None told.lines (option_to_list told.sent) (unanswered keeps m.outcome (write_unanswered sql step m.outcome m.is)) (t.lines ∙ ap (λ ls. details old.id m.outcome ++ ls) (write_last old.id sql step m.outcome m.is)) t.sent (plain_link past m.next m.outcome (write_plain sql step m.outcome m.is) m.link))
 
   long_makes : (keeps : Bool) (past : session.Client) → StandsFor past old → most_text < length sql → IfOk r (Did keeps old new past (Wrote sql))
@@ -211,7 +211,7 @@ module _ {E : Type 0} (old new : Client) (step : ResumeStep) (told : world.Told)
       if_ok (Did keeps old new past Resumed) r (done_of told None) is
       (makes keeps old new past Resumed (SaysResume past step) (λ db. Unit {0}) (λ db. rules.ResumeStep db.schema past) m
       (resume_from old.schema old.id past step m.outcome sends m.is) (λ db o next rule. rule) (λ db come. tt)
-      stays (λ told is. (subst (IsToldOf old.schema told) (sym held) is, does.ruled past stands))
+      stays (λ told is. (subst (brought.IsToldOf old.schema told) (sym held) is, does.ruled past stands))
       None told.lines (option_to_list told.sent) (unanswered keeps m.outcome (resume_unanswered past step m.outcome m.is)) t.lines t.sent (resume_link past m.next step m.outcome m.is m.link))
 
   pub resume_sendable : client.Stands old → ResumeSendsWell old.schema old.id step → IfOk r (λ d. All IsSendable d.told.sent)
@@ -240,5 +240,5 @@ cut_makes {E} old new step r does stays held tells keeps past stands =
     let link = cut_link past m.next old step m.outcome m.is m.link in
     IfOk-weaker r (λ lines. lines ≡ details old.id m.outcome ++ cut_line old.id m.outcome) (λ lines. Did keeps old new past WasCut (silent lines))
     (λ lines is. makes keeps old new past WasCut (SaysCut past old step) (λ db. Unit {0}) (λ db. rules.CutStep past) m
-    (subst (All (IsFrom old.id)) (sym link.1) (All-nil (IsFrom old.id))) (λ db o next rule. rule) (λ db come. tt) stays (λ told is. (subst (IsToldOf old.schema told) (sym held) is, does.ruled past stands)) None lines [] (unanswered keeps m.outcome (cut_unanswered past old step m.outcome m.is)) is (sym link.1) link)
+    (subst (All (IsFrom old.id)) (sym link.1) (All-nil (IsFrom old.id))) (λ db o next rule. rule) (λ db come. tt) stays (λ told is. (subst (brought.IsToldOf old.schema told) (sym held) is, does.ruled past stands)) None lines [] (unanswered keeps m.outcome (cut_unanswered past old step m.outcome m.is)) is (sym link.1) link)
     (tells past old m.outcome stands.0.meaning (ap (λ (p : session.Client). p.out) stands.2) m.is)

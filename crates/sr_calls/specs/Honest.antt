@@ -1,5 +1,5 @@
 -- What is true of a run of a client over an honest link.
-use Rattle.std.specs.Prelude.{◌≡◌, ℕ, ◌<◌, Bool, true, List, [], ◌∷◌, ◌++◌, length}
+use Rattle.std.specs.Prelude.{◌≡◌, ◌≢◌, ℕ, ◌<◌, ◌≤◌, Bool, true, List, [], ◌∷◌, ◌++◌, length}
 use Rattle.std.specs.List.{list_all}
 use Rattle.sr_cell.specs.declared.table.Table.{Table}
 use Rattle.sr_io.specs.Told.{Linking, Writing}
@@ -15,14 +15,16 @@ use Rattle.sr_session.specs.Laws.{IsSound}
 use Rattle.sr_session.specs.Sessions.{Database}
 use Rattle.sr_server.specs.Servers.{Gives}
 use Rattle.sr_links.specs.Brought.{GoByTold}
+use Rattle.sr_links.specs.Counts.{HasFewRows}
 use Rattle.sr_links.specs.Honest.{Server, Input, Rests, server_at_last}
 use Rattle.sr_links.specs.Steps.{Resumed}
 use Rattle.sr_plan.specs.Plans.{Plan, AllTasks, plan_of}
 use Rattle.sr_dial.specs.Calls.{Task, Do, all_done, steps_in}
 use Rattle.sr_talk.specs.Serving.{Conversation}
-use Rattle.sr_dial.specs.Honest.{IsAskedFor, IsHonest, IsTrue}
+use Rattle.sr_dial.specs.Honest.{AsksFew, IsAskedFor, IsHonest, IsTrue}
 use Rattle.sr_dial.specs.Known.{AreTasks}
 use Rattle.sr_dial.specs.Served.{AreServedCalls}
+use Rattle.sr_dial.specs.Statuses.{status_of}
 use Rattle.sr_dial.specs.declared.ending.Ending.{Ending}
 use Rattle.sr_dial.specs.declared.parts.Answer.{Answer}
 use Rattle.sr_calls.specs.ClientEnds.{End, HasTold, IsEnd}
@@ -50,6 +52,25 @@ ServedRunsAreTrue = (id : ℕ) (address : List ℕ) (schema : List Table) (limit
     → AllTasks IsAskedFor plan → (run : RanNew id address schema limits keeps says plan ended old new before after) → db.schema ≡ schema → 0 < length db.versions → IsSound last
     → AreServedCalls End Gives db (run.ran.run.ran.earlier ++ run.ran.run.ran.last ∷ []) talks last
     → IsTrue last limits new_past (run.ran.run.ran.earlier ++ run.ran.run.ran.last ∷ []) ended
+
+-- Over an honest link a run never ends with 11, since so many frames never come for one request, where the server's log keeps at most 500,000
+-- changes, its tables have at most 65,536 rows, and the plan's queries at most four parts.
+abbrev pub HonestRunsAreShort : Type 0
+HonestRunsAreShort = (s : Server) (pieces : List (List Input)) (end left : End) (past : session.Client) (address : List ℕ) (plan : Plan Task Answer) (ended : Ending) (old new : Linking) (before after : Writing)
+    → list_all is_table end.client.schema ≡ true → Rests IsEnd s.database end past → AllTasks IsAskedFor plan → AllTasks AsksFew plan
+    → (run : RanFrom end past address plan ended old new before after left) → IsHonest end.client.schema s pieces (run.run.ran.earlier ++ run.run.ran.last ∷ [])
+    → s.database.log_limit ≤ 500000 → HasFewRows (server_at_last s pieces).database → status_of ended ≢ 11
+
+-- So it is of a new client.
+abbrev pub NewHonestRunsAreShort : Type 0
+NewHonestRunsAreShort = (id : ℕ) (address : List ℕ) (schema : List Table) (limits : Limits) (keeps says : Bool) (s : Server) (pieces : List (List Input)) (plan : Plan Task Answer) (ended : Ending) (old new : Linking) (before after : Writing)
+    → AllTasks IsAskedFor plan → AllTasks AsksFew plan
+    → (run : RanNew id address schema limits keeps says plan ended old new before after) → IsHonest schema s pieces (run.ran.run.ran.earlier ++ run.ran.run.ran.last ∷ [])
+    → s.database.log_limit ≤ 500000 → HasFewRows (server_at_last s pieces).database → status_of ended ≢ 11
+
+-- The queries of a script have at most four parts.
+abbrev pub ScriptsAskFew : Type 0
+ScriptsAskFew = (schema : List Table) (lines : List EventLine) (script : List (ℕ × Task)) → AreTasks schema lines script → AllTasks {A = Answer} AsksFew (plan_of ((0, Do Resumed) ∷ script))
 
 -- Over any link, whatever the peer is, each step of a run goes by the client's rules, on what the frames brought to the rows that its client
 -- had, and the client keeps to its budgets by them.

@@ -1,5 +1,5 @@
 //! Laws of runs of a client: functions that do nothing, and whose contracts are the laws.
-ghost use Rattle.sr_calls.specs.Honest.{BrokenRunsGoByTold, HonestRunsAreTrue, NewHonestRunsAreTrue, RunsFromAnyClientGoByTold, RunsGoByTold, ScriptsAreAskedFor, ServedRunsAreTrue};
+ghost use Rattle.sr_calls.specs.Honest.{BrokenRunsGoByTold, HonestRunsAreShort, HonestRunsAreTrue, NewHonestRunsAreShort, NewHonestRunsAreTrue, RunsFromAnyClientGoByTold, RunsGoByTold, ScriptsAreAskedFor, ScriptsAskFew, ServedRunsAreTrue};
 ghost use Rattle.sr_calls.specs.Started.{StartedRunsAreTrue};
 
 /// Over an honest link, whatever the plan is, each answer that a run of a client writes has the rows of its query on the server's tables
@@ -23,6 +23,22 @@ pub fn started_runs_are_true()
 /// So it is where each connection goes to a server that serves: at the versions that it has in the end.
 pub fn served_runs_are_true()
     ensures { ServedRunsAreTrue }
+{}
+
+/// Over an honest link no run ends with 11, since so many frames never come for one request, where the server's log keeps at most 500,000
+/// changes, its tables have at most 65,536 rows, and the plan's queries at most four parts.
+pub fn runs_from_any_client_are_short()
+    ensures { HonestRunsAreShort }
+{}
+
+/// So it is of a new client.
+pub fn honest_runs_are_short()
+    ensures { NewHonestRunsAreShort }
+{}
+
+/// The queries of a script have at most four parts.
+pub fn scripts_ask_few()
+    ensures { ScriptsAskFew }
 {}
 
 /// Over any link, whatever the peer is, each step of a run goes by the client's rules, on what the frames brought to the rows that the

@@ -1,15 +1,18 @@
 -- How runs of `save` and `warm` come to their ends.
-use Rattle.std.proofs.Common.{◌≡◌, ◌≢◌, ℕ, ◌+◌, ◌≤◌, ◌⊎◌, Bool, true, false, List, [], ◌∷◌, ◌++◌, take, flat_map, Option, Some, None, Ok, Err, inl, inr, refl, sym, ap, subst, arith, ◌∙◌, append-nil}
-use Rattle.std.specs.Prelude.{Result, IfErr, if◌then◌else◌}
+use Rattle.std.proofs.Common.{◌≡◌, ◌≢◌, ℕ, ◌+◌, ◌≤◌, ◌<◌, ◌⊎◌, true, false, List, [], ◌∷◌, ◌++◌, take, flat_map, Option, Some, None, Ok, Err, inl, inr, refl, sym, ap, subst, arith, ◌∙◌, append-nil}
+use Rattle.std.specs.Prelude.{◌*◌, ◌^◌, Result, IfErr, IfOk, IsTrue, if◌then◌else◌}
 use Rattle.std.specs.Io.KnownBytes.{Appends}
 use Rattle.std.proofs.lemmas.List.Concat.{flat_map-cons}
-use Rattle.sr_calls.specs.ClientEnds.{End, setting_of}
-use Rattle.sr_calls.specs.Runs.{RanNewInPart, new_end}
-use Rattle.sr_calls.proofs.RunLemmas.{ended_in_part}
+use Rattle.sr_calls.specs.ClientEnds.{End, room_of, setting_of}
+use Rattle.sr_calls.specs.Runs.{RanFrom, RanNewInPart, RanOff, new_end}
+use Rattle.sr_calls.proofs.RunLemmas.{ended_in_part, run_in_part}
 use Rattle.sr_cell.specs.declared.fault.Fault.{Fault}
 use Rattle.sr_cell.specs.declared.list.No.{No}
 use Rattle.sr_cell.specs.declared.list.No.TheVariants.{Refused as NoBut, NoMemory as Wanting}
 use Rattle.sr_cell.specs.declared.table.Table.{Table}
+use Rattle.sr_client.specs.Stands.{StandsFor}
+use Rattle.sr_client.specs.Starting.{start_past}
+use Rattle.sr_client.specs.declared.client.Client.{Client}
 use Rattle.sr_dial.specs.Calls.{Do, Done, text_of}
 use Rattle.sr_dial.specs.Carrying.{spoken}
 use Rattle.sr_dial.specs.Following.{Ahead}
@@ -17,7 +20,14 @@ use Rattle.sr_dial.specs.Known.{Setting, said_by}
 use Rattle.sr_dial.specs.Runs.{WritesAs, is_unwritten}
 use Rattle.sr_dial.specs.declared.ending.Ending.{Ending}
 use Rattle.sr_dial.specs.declared.ending.Ending.TheVariants.{Whole, Faulty, Unwritten, Spoiled, Bad as BadMessage, Limit as TooMany}
+use Rattle.sr_cell.specs.Columns.{are_bytes}
+use Rattle.sr_image.specs.Found.{Answers}
+use Rattle.sr_image.specs.Laws.{is_image}
+use Rattle.sr_image.specs.Reading.{image_in}
 use Rattle.sr_image.specs.Spelling.{image_bytes}
+use Rattle.sr_image.specs.declared.image.Image.{Image}
+use Rattle.sr_image.specs.declared.image.ImageFault.{ImageFault}
+use Rattle.sr_image.proofs.Spelled.{was-spelled}
 use Rattle.sr_io.specs.Causes.{Rose}
 use Rattle.sr_io.specs.Pieces.{WritesPrefix}
 use Rattle.sr_io.specs.declared.outside.Failed.{Failed}
@@ -27,18 +37,23 @@ use Rattle.sr_plan.specs.Plans.{Next}
 use Rattle.sr_wire.specs.declared.bad_frame.BadFrame.{BadFrame}
 use Rattle.sr_wire.specs.declared.wire_fault.WireFault.{WireFault}
 use Rattle.sr_words.specs.declared.command.ClientWords.{ClientWords}
+use Rattle.sr_words.specs.declared.command.WarmWords.{WarmWords}
+use Rattle.sr_session.specs.Clients as session
 use Rattle.sr_setup.specs.ClientFiles.{script_outside, Refuses}
 use Rattle.sr_setup.specs.declared.client_setup.ClientFault.{ClientFault}
 use Rattle.sr_setup.specs.declared.client_setup.ClientFault.TheVariants as setup
 use Rattle.sr_cli.specs.Client.{AreFiles, CountsStop, IsEnd, IsOutside, IsRefusedCreate, NamedCreate, NamedLine, Untouched, ending_of, stop_of}
 use Rattle.sr_cli.specs.Errors.{bad_text, line_text, setup_text, spoiled_text}
-use Rattle.sr_cli.specs.Image.{Asked, ComesTo, CreateDid, EndsQuietly, LeftBy, NamedEnd, OutsideDid, SaveStops, SaveStopsFiles, SaveStopsOver, SavedOff, Saved, Saves, SavesNothing, SavesOff, SavesOnly, StopsAs, StopsQuietly, WritesAll, WritesOff, WritesPart, Wrote, WroteLeft, bytes_left, has_image, held_image}
+use Rattle.sr_cli.specs.Image.{Asked, AskedOver, BeginsAs, ComesTo, CountsWarm, CreateDid, EndsQuietly, LeftBy, NamedEnd, OutsideDid, SaveStops, SaveStopsFiles, SaveStopsOver, SavedInPart, SavedOff, Saved, Saves, SavesNothing, SavesOff, SavesOnly, StopsAs, StopsQuietly, WarmStops, WarmStopsFiles, WarmStopsOver, WarmedInPart, WarmedOff, Warmed, Warms, WarmsInPart, WarmsOnly, WarmsUnwritten, WritesAll, WritesOff, WritesPart, Wrote, WroteLeft, bytes_left, end_of_start, has_image, held_image, text_of_start}
+use Rattle.sr_cli.specs.Files.{IsWhatIsHeld}
 use Rattle.sr_cli.specs.Kinds.{AsksLines, fault_by}
 use Rattle.sr_cli.specs.Leaves.{DidNothing, Names, Reported}
 use Rattle.sr_cli.specs.declared.report.Refusal.{Refusal}
 use Rattle.sr_cli.specs.declared.report.Refusal.TheVariants as refusal
 use Rattle.sr_cli.specs.declared.stop.Stop.{Stop}
 use Rattle.sr_cli.specs.declared.stop.Stop.TheVariants as stop
+use Rattle.sr_cli.specs.declared.warm.WarmStop.{WarmStop}
+use Rattle.sr_cli.specs.declared.warm.WarmStop.TheVariants as warm_stop
 use Rattle.sr_cli.proofs.LeavesLemmas.{HasName, InWant, NamesLine, NamesRefused, Report, reported-is}
 
 or-map : {U D E : Type 0} → (D → E) → U ⊎ D → U ⊎ E
@@ -386,10 +401,132 @@ module _ (H : Type 0) (reading : H → Reading) (writing : H → Writing) (linki
 pub counts-saved : (H : Type 0) (reading : H → Reading) (writing : H → Writing) (linking : H → Linking) (held : List ℕ → Option (List ℕ)) (words : ClientWords) (old mid new : H)
     → (reading mid).faults ≡ (reading old).faults → reading new ≡ reading mid → writing mid ≡ writing old → linking mid ≡ linking old
     → (result : Result (Unit {0}) Stop) → IfErr result (SaveStopsFiles held words (linking mid) (linking new) (writing mid) (writing new)) → CountsStop H reading writing linking old new result
-counts-saved H reading writing linking held words old mid new = counts-result H reading writing linking held words old mid new (λ part. part.did.image.1)
+counts-saved H reading writing linking held words old mid new = counts-result H reading writing linking held words old mid new (λ (part : SavedInPart held words (linking mid) (linking new) (writing mid) (writing new)). part.did.image.1)
 
 -- files that were read are those of the names
 pub stops-over : (held : List ℕ → Option (List ℕ)) (words : ClientWords) {left : Option (List ℕ)} (old new : Linking) (before after : Writing) (why : Stop) → SaveStopsFiles held words old new before after why
     → SaveStopsOver held words left old new before after why
 stops-over held words {left} old new before after =
     stops-map (λ e did. did) (λ part. part) (λ off. off) (λ none. absurd none) (λ none. absurd none) (λ line place did. did.0) (λ line fault did. did.0)
+
+-- ---- what `warm` does
+
+-- where each line was written, a run stops for what ended it
+pub stops-ended : {E : Ending → Type 0} {W : Type 0} {O : ℕ → ℕ → Type 0} {C : ℕ → Fault → Type 0} (ending : Ending) (why : Stop) → ending_of why ≡ Some ending → E ending → StopsAs E (E Unwritten) W ⊥ ⊥ O C why
+stops-ended {E} {W} {O} {C} ending (stop.Refused refusal.Read) is ended = absurd cc
+stops-ended {E} {W} {O} {C} ending (stop.Refused refusal.Write) is ended = subst E (let same : Some Unwritten ≡ Some ending = is in let e : ending ≡ Unwritten = cc in e) ended
+stops-ended {E} {W} {O} {C} ending (stop.Refused refusal.Link) is ended = subst E (let same : Some Faulty ≡ Some ending = is in let e : ending ≡ Faulty = cc in e) ended
+stops-ended {E} {W} {O} {C} ending (stop.Refused refusal.Memory) is ended = absurd cc
+stops-ended {E} {W} {O} {C} ending (stop.Refused refusal.TooLong) is ended = absurd cc
+stops-ended {E} {W} {O} {C} ending (stop.Refused (refusal.Line line place)) is ended = absurd cc
+stops-ended {E} {W} {O} {C} ending (stop.Refused (refusal.Setup line fault)) is ended = absurd cc
+stops-ended {E} {W} {O} {C} ending (stop.Refused (refusal.Load table fault)) is ended = absurd cc
+stops-ended {E} {W} {O} {C} ending (stop.Spoiled fault) is ended = subst E (let same : Some (Spoiled fault) ≡ Some ending = is in let e : ending ≡ Spoiled fault = cc in e) ended
+stops-ended {E} {W} {O} {C} ending (stop.Bad why) is ended = subst E (let same : Some (BadMessage why) ≡ Some ending = is in let e : ending ≡ BadMessage why = cc in e) ended
+stops-ended {E} {W} {O} {C} ending stop.Limit is ended = subst E (let same : Some TooMany ≡ Some ending = is in let e : ending ≡ TooMany = cc in e) ended
+
+module _ (words : ClientWords) (tables : List Table) (ahead : Ahead) (bytes text : List ℕ) (end : End) (by : BeginsAs words tables bytes text end) where
+  abbrev pub past : session.Client
+  past = start_past tables by.starts.image.version by.starts.image.kept by.starts.marks
+
+  pub start-schema : end.client.schema ≡ tables
+  start-schema = ap (λ (e : End). e.client.schema) by.end_is ∙ ap (λ (c : Client). c.schema) by.starts.is.client
+
+  -- it can draw enough numbers for so many jobs
+  pub start-room : (jobs : ℕ) → jobs < 2 ^ 40 → 4000004 * (jobs + 1) ≤ room_of end.client
+  start-room jobs few = subst (λ (e : End). 4000004 * (jobs + 1) ≤ room_of e.client) (sym by.end_is) (subst (λ (c : Client). 4000004 * (jobs + 1) ≤ room_of c) (sym by.starts.is.client) (omega (arith, few)))
+
+  pub start-fresh : end.answer ≡ None
+  start-fresh = ap (λ (e : End). e.answer) by.end_is
+
+  pub start-stands : StandsFor past end.client
+  start-stands = subst (λ (e : End). StandsFor past e.client) (sym by.end_is) by.starts.is.stands
+
+  module _ (old new : Linking) (before mid after : Writing) (left : End) where
+    abbrev pub RunsOn : Ending → Type 0
+    RunsOn ending = RanFrom end past words.address (Next 0 (Do Resumed) ahead) ending old new mid after left
+
+    abbrev pub BreaksOn : Type 0
+    BreaksOn = RanOff end past words.address (Next 0 (Do Resumed) ahead) old new mid after
+
+    said-of : WritesAll text before mid → WritesAll (text_of_start by.starts) before mid
+    said-of said = subst (λ bs. WritesAll bs before mid) by.text_is said
+
+    pub warms-of : WritesAll text before mid → (ending : Ending) → RunsOn ending → Warms words tables ahead bytes ending old new before after
+    warms-of said ending ran = record {
+      starts = by.starts;
+      middle = mid;
+      said = said-of said;
+      left = left;
+      ran = subst (λ (e : End). RanFrom e past words.address (Next 0 (Do Resumed) ahead) ending old new mid after left) by.end_is ran;
+    }
+
+    pub warms-off : WritesAll text before mid → BreaksOn → WarmsInPart words tables ahead bytes old new before after
+    warms-off said off = record {
+      starts = by.starts;
+      middle = mid;
+      said = said-of said;
+      ran = subst (λ (e : End). RanOff e past words.address (Next 0 (Do Resumed) ahead) old new mid after) by.end_is off;
+    }
+
+    pub warms-stopped : WritesAll text before mid → (why : Stop) → StopsAs RunsOn (RunsOn Unwritten) BreaksOn ⊥ ⊥ (λ line place. ⊥) (λ line fault. ⊥) why → WarmStops words tables ahead bytes old new before after why
+    warms-stopped said = stops-map (λ e ran. warms-of said e ran) (λ ran. inl (warms-of said Unwritten ran)) (λ off. inr (inl (warms-off said off))) (λ none. none) (λ none. none) (λ line place none. none) (λ line fault none. none)
+
+  -- its lines were not written
+  pub warms-only : (Writes : List ℕ → Writing → Writing → Type 0) (old new : Linking) (before after : Writing) → new ≡ old → Writes text before after → WarmsOnly Writes words tables ahead bytes old new before after
+  warms-only Writes old new before after same said = record { starts = by.starts; said = subst (λ bs. Writes bs before after) by.text_is said; linking = same }
+
+-- a run that ended so did no more than one that was broken off
+pub warms-in-part : (words : ClientWords) (tables : List Table) (ahead : Ahead) (bytes : List ℕ) (ending : Ending) (old new : Linking) (before after : Writing) → is_unwritten ending ≡ false
+    → Warms words tables ahead bytes ending old new before after → WarmsInPart words tables ahead bytes old new before after
+warms-in-part words tables ahead bytes ending old new before after each warms = record {
+  starts = warms.starts;
+  middle = warms.middle;
+  said = warms.said;
+  ran = run_in_part (end_of_start warms.starts) warms.left (start_past tables warms.starts.image.version warms.starts.image.kept warms.starts.marks) words.address (Next 0 (Do Resumed) ahead) ending old new warms.middle after each warms.ran;
+}
+
+module _ (held : List ℕ → Option (List ℕ)) (words : WarmWords) where
+  pub over-map : {D E : List Table → Ahead → List ℕ → Type 0} → ((tables : List Table) (ahead : Ahead) (bytes : List ℕ) → D tables ahead bytes → E tables ahead bytes) → AskedOver held words D → AskedOver held words E
+  over-map {D} {E} f a = record { image = a.image; image_read = a.image_read; asked = asked-map held words.client (λ tables ahead did. f tables ahead a.image did) a.asked }
+
+  pub warmed-off : (old new : Linking) (before after : Writing) (ending : Ending) → is_unwritten ending ≡ false → Warmed held words old new before after ending → WarmedOff held words old new before after
+  warmed-off old new before after ending each warmed = inr (over-map (λ tables ahead bytes warms. inl (warms-in-part words.client tables ahead bytes ending old new before after each warms)) warmed)
+
+  pub warm-asked : (schema script bytes : List ℕ) → AreFiles held words.client schema script → IsWhatIsHeld (held words.image) bytes → (tables : List Table) (ahead : Ahead) → AsksLines words.client.id schema script tables ahead
+      → {D : List Table → Ahead → List ℕ → Type 0} → D tables ahead bytes → AskedOver held words D
+  warm-asked schema script bytes files image tables ahead asks {D} did =
+      record { image = bytes; image_read = image; asked = record { schema = schema; script = script; files = files; tables = tables; ahead = ahead; asks = asks; did = did } }
+
+  pub warm-stops : (schema script bytes : List ℕ) → AreFiles held words.client schema script → IsWhatIsHeld (held words.image) bytes → (tables : List Table) (ahead : Ahead) → AsksLines words.client.id schema script tables ahead
+      → (old new : Linking) (before after : Writing) (why : Stop) → WarmStops words.client tables ahead bytes old new before after why → WarmStopsFiles held words old new before after (warm_stop.Stopped why)
+  warm-stops schema script bytes files image tables ahead asks old new before after =
+      stops-map (λ e did. warm-asked schema script bytes files image tables ahead asks did) (λ did. warm-asked schema script bytes files image tables ahead asks did)
+      (or-map (λ did. warm-asked schema script bytes files image tables ahead asks did)) (λ none. none) (λ none. none) (λ line place none. absurd none) (λ line fault none. absurd none)
+
+  -- files that were read are those of the names
+  pub warm-over : {left : Option (List ℕ)} (old new : Linking) (before after : Writing) (why : WarmStop) → WarmStopsFiles held words old new before after why → WarmStopsOver held words left old new before after why
+  warm-over {left} old new before after (warm_stop.NoImage fault) did = did
+  warm-over {left} old new before after (warm_stop.Stopped why) did =
+      stops-map (λ e did. did) (λ part. part) (λ off. off) (λ none. absurd none) (λ none. absurd none) (λ line place did. did.0) (λ line fault did. did.0) why did
+
+-- what was not written counts as a fault
+unwritten-counts : (held : List ℕ → Option (List ℕ)) (words : WarmWords) (old new : Linking) (before after : Writing) → WarmedInPart held words old new before after → Rose before.faults after.faults
+unwritten-counts held words old new before after part = by part.asked.did
+  where
+    by : {tables : List Table} {ahead : Ahead} {bytes : List ℕ} → WarmsUnwritten words.client tables ahead bytes old new before after → Rose before.faults after.faults
+    by {tables} {ahead} {bytes} (inl warms) = subst (λ n. Rose n after.faults) warms.said.1 (warms.ran.run.ran.writes.2)
+    by {tables} {ahead} {bytes} (inr only) = only.said.1
+
+pub counts-warmed : (H : Type 0) (reading : H → Reading) (writing : H → Writing) (linking : H → Linking) (held : List ℕ → Option (List ℕ)) (words : WarmWords) (old mid new : H)
+    → (reading mid).faults ≡ (reading old).faults → reading new ≡ reading mid → writing mid ≡ writing old → linking mid ≡ linking old
+    → (result : Result (Unit {0}) WarmStop) → IfErr result (WarmStopsFiles held words (linking mid) (linking new) (writing mid) (writing new)) → CountsWarm H reading writing linking old new result
+counts-warmed H reading writing linking held words old mid new faults read write link (Ok done) stops = ap (λ (r : Reading). r.faults) read ∙ faults
+counts-warmed H reading writing linking held words old mid new faults read write link (Err (warm_stop.NoImage fault)) stops = ap (λ (r : Reading). r.faults) read ∙ faults
+counts-warmed H reading writing linking held words old mid new faults read write link (Err (warm_stop.Stopped why)) stops =
+    counts-stop H reading writing linking held words.client old mid new (unwritten-counts held words (linking mid) (linking new) (writing mid) (writing new)) faults read write link why stops
+
+-- what is read as an image is one
+pub image-whole : (schema : List Table) (bytes : List ℕ) (result : Result Image (No ImageFault)) → IsTrue (are_bytes bytes) → Answers result (image_in schema bytes) → IfOk result (λ image. IsTrue (is_image schema image))
+image-whole schema bytes (Ok image) fit is = (was-spelled schema bytes image fit is).1
+image-whole schema bytes (Err no) fit is = tt

@@ -7,6 +7,7 @@ pub mod ExplainFits
 pub mod FitsLemmas
 pub mod GenerateEnds
 pub mod ImageEnds
+pub mod ImageFits
 pub mod ImageLemmas
 pub mod LeavesLemmas
 pub mod LoadTexts

@@ -34,10 +34,10 @@ use Rattle.sr_wire.specs.declared.bad_frame.BadFrame.{BadFrame}
 use Rattle.sr_wire.specs.declared.wire_fault.WireFault.{WireFault}
 use Rattle.sr_words.specs.declared.command.ClientWords.{ClientWords}
 use Rattle.sr_words.specs.declared.command.WarmWords.{WarmWords}
-use Rattle.sr_cli.specs.Client.{AreFiles, CountsStop, IsEnd, IsOutside, IsRefusedCreate, NamedCreate, NamedLine, Untouched, files_of}
+use Rattle.sr_cli.specs.Client.{AreFiles, AreHeld, AreLong, CountsStop, DidRun, FitsFiles, IsEnd, IsOutside, IsRefusedCreate, NamedCreate, NamedLine, Untouched, files_of}
 use Rattle.sr_cli.specs.Errors.{bad_text, spoiled_text, words_text}
-use Rattle.sr_cli.specs.Files.{IsWhatIsHeld, SomeTooLong}
-use Rattle.sr_cli.specs.Kinds.{AsksLines}
+use Rattle.sr_cli.specs.Files.{IsLong, IsWhatIsHeld, SomeTooLong}
+use Rattle.sr_cli.specs.Kinds.{AsksLines, fault_by}
 use Rattle.sr_cli.specs.declared.kinds.Files.{Files}
 use Rattle.sr_cli.specs.declared.report.Refusal.TheVariants as refusal
 use Rattle.sr_cli.specs.declared.stop.Stop.{Stop}
@@ -251,17 +251,41 @@ pub record NamedImage (held : List ℕ → Option (List ℕ)) (words : WarmWords
   pub untouched : Untouched old new before after
   pub said : last ≡ complained (image_text fault) first
 
+-- ---- a host without faults
+
+-- it holds the files and the image, and these are they
+pub record AreWarmHeld (held : List ℕ → Option (List ℕ)) (words : WarmWords) (schema script bytes : List ℕ) : Type 0 where
+  pub files : AreHeld held words.client schema script
+  pub image_held : held words.image ≡ Some bytes
+
+-- whatever the files and the image are, the host does not hold these
+abbrev pub AreNotWarmHeld : (List ℕ → Option (List ℕ)) → WarmWords → Type 0
+AreNotWarmHeld held words = (schema script bytes : List ℕ) → ¬ AreWarmHeld held words schema script bytes
+
+-- the files ask a client of this number for something over tables of which this holds
+abbrev pub AskedOf : ℕ → List ℕ → List ℕ → (List Table → Type 0) → Type 0
+AskedOf id schema script P = (tables : List Table) × (ahead : Ahead) × AsksLines id schema script tables ahead × P tables
+
+-- what a host without faults that holds the files and the image lets the status of the client of this number be
+pub record FitsImage (id : ℕ) (schema script bytes : List ℕ) (status : ℕ) : Type 0 where
+  pub no_read_fault : ¬ (status ≡ 3)
+  pub too_long : status ≡ 10 → AreLong schema script ⊎ IsLong bytes
+  pub no_image : status ≡ 13 → AskedOf id schema script (λ tables. (fault : ImageFault) × (image_in tables bytes ≡ Err fault))
+  pub an_image : DidRun status → AskedOf id schema script (λ tables. (image : Image) × (image_in tables bytes ≡ Ok image))
+
 -- ---- a run
 
 -- What `save` does over a host, by the status that it ends with.
-pub record SavesOver (H : Type 0) (held : H → List ℕ → Option (List ℕ)) (reading : H → Reading) (writing : H → Writing) (linking : H → Linking) (complaints : H → Option (List ℕ)) (old new : H) (words : ClientWords) (status : ℕ) : Type 0 where
+pub record SavesOver (H : Type 0) (held : H → List ℕ → Option (List ℕ)) (reading : H → Reading) (writing : H → Writing) (linking : H → Linking) (complaints : H → Option (List ℕ)) (IsSteady : H → Type 0) (old new : H) (words : ClientWords) (status : ℕ) : Type 0 where
   pub only : IsEnd status
   pub comes : SavesBy (held old) words (reading new) (linking old) (linking new) (writing old) (writing new) (complaints old) (complaints new) status
+  pub steady : IsSteady old → (schema script : List ℕ) → AreHeld (held old) words schema script → FitsFiles (fault_by words) schema script status
 
 -- What `warm` does over a host, by the status that it ends with.
-pub record WarmsOver (H : Type 0) (held : H → List ℕ → Option (List ℕ)) (reading : H → Reading) (writing : H → Writing) (linking : H → Linking) (complaints : H → Option (List ℕ)) (old new : H) (words : WarmWords) (status : ℕ) : Type 0 where
+pub record WarmsOver (H : Type 0) (held : H → List ℕ → Option (List ℕ)) (reading : H → Reading) (writing : H → Writing) (linking : H → Linking) (complaints : H → Option (List ℕ)) (IsSteady : H → Type 0) (old new : H) (words : WarmWords) (status : ℕ) : Type 0 where
   pub only : IsEnd status ⊎ (status ≡ 13)
   pub comes : WarmsBy (held old) words (reading new) (linking old) (linking new) (writing old) (writing new) (complaints old) (complaints new) status
+  pub steady : IsSteady old → (schema script bytes : List ℕ) → AreWarmHeld (held old) words schema script bytes → FitsImage words.client.id schema script bytes status
   pub no_image : status ≡ 13 → NamedImage (held old) words (linking old) (linking new) (writing old) (writing new) (complaints old) (complaints new)
 
 -- ---- inside the crate

@@ -40,9 +40,9 @@ pub fn run<H: Host>(alloc: Global, words: &[Text], host: &mut H) -> u8
     ensures dials { (w : ClientWords) → command_said words.now ≡ Some (Client w)
         → Dials H H.held H.reading H.writing H.linking H.complaints H.IsSteady host.old host.new w result }
     ensures saves { (w : ClientWords) → command_said words.now ≡ Some (Save w)
-        → SavesOver H H.held H.reading H.writing H.linking H.complaints host.old host.new w result }
+        → SavesOver H H.held H.reading H.writing H.linking H.complaints H.IsSteady host.old host.new w result }
     ensures warms { (w : WarmWords) → command_said words.now ≡ Some (Warm w)
-        → WarmsOver H H.held H.reading H.writing H.linking H.complaints host.old host.new w result }
+        → WarmsOver H H.held H.reading H.writing H.linking H.complaints H.IsSteady host.old host.new w result }
     ensures serves { (w : ServeWords) → command_said words.now ≡ Some (Serve w)
         → Serves H H.held H.reading H.writing H.linking H.complaints H.IsSteady host.old host.new w result }
     ensures explains { (w : ExplainWords) → command_said words.now ≡ Some (Explain w)

@@ -1,5 +1,5 @@
 //! Running a script as a client of a server, and writing the image of what it holds then.
-ghost use Rattle.std.specs.Prelude.{◌≡◌, ◌≢◌, ◌<◌, ◌≤◌, ◌^◌, IfErr, IfOk, IsTrue, OnErr, OnOk};
+ghost use Rattle.std.specs.Prelude.{◌≡◌, ◌≢◌, ◌<◌, ◌≤◌, ◌^◌, IfErr, IfOk, IsErrOf, IsTrue, OnErr, OnOk};
 ghost use Rattle.std.specs.List.{list_all};
 ghost use Rattle.sr_dial.specs.Following.{Ahead};
 ghost use Rattle.sr_dial.specs.declared.ending.Ending.TheVariants.{Unwritten, Whole};
@@ -7,9 +7,11 @@ ghost use Rattle.sr_image.specs.Spelling.{image_bytes};
 ghost use Rattle.sr_query.specs.Bound.{is_table};
 ghost use Rattle.sr_talk.specs.Rounds.{OnlyOutput};
 ghost use Rattle.sr_words.specs.declared.command.ClientKind.TheVariants.{Client as AsClient};
-ghost use Rattle.sr_cli.specs.Client.{CountsStop};
+ghost use Rattle.sr_cli.specs.Client.{AreNotHeld, CountsStop};
 ghost use Rattle.sr_cli.specs.Image.{AreShortFiles, BreaksQuietly, EndsQuietly, IsSaved, LeavesEnd, SavesOf, SavesOver, StopsQuietly, StopsSaving, StopsSavingFiles, StopsSavingOf, Wrote, WroteLeft, has_image, held_image};
 ghost use Rattle.sr_cli.specs.Leaves.{Leaves, OnlyRuns};
+ghost use Rattle.sr_cli.specs.declared.report.Refusal.TheVariants.{Read};
+ghost use Rattle.sr_cli.specs.declared.stop.Stop.TheVariants.{Refused};
 
 use crate::client::read_files;
 use crate::frames::{report_bad, report_limit, report_spoiled};
@@ -45,7 +47,7 @@ pub(crate) fn run_save<H: Host>(alloc: Global, words: &ClientWords, host: &mut H
     requires last { words.now.id ≤ 64 }
     requires rows { words.now.limits.rows ≤ 200000 }
     requires regions { words.now.limits.regions ≤ 1024 }
-    ensures saves { SavesOver H H.held H.reading H.writing H.linking H.complaints host.old host.new words.now result }
+    ensures saves { SavesOver H H.held H.reading H.writing H.linking H.complaints H.IsSteady host.old host.new words.now result }
     ensures leaves { Leaves H H.held H.reading H.writing H.linking H.complaints H.IsSteady host.old host.new result }
 {
     match save_files(alloc, words, host) {
@@ -66,6 +68,7 @@ fn save_files<H: Host>(alloc: Global, words: &ClientWords, host: &mut H) -> Resu
     requires regions { words.now.limits.regions ≤ 1024 }
     ensures whole { OnOk result (IsSaved H H.held H.linking H.writing host.old host.new words.now Whole) }
     ensures stopped { IfErr result (StopsSaving H H.held H.reading H.linking H.writing host.old host.new words.now) }
+    ensures steady_reads { H.IsSteady host.old → IsErrOf result (Refused Read) → AreNotHeld (H.held host.old) words.now }
     ensures counts { CountsStop H H.reading H.writing H.linking host.old host.new result }
     ensures stays { OnlyRuns H H.held H.complaints H.IsSteady host.old host.new }
 {

@@ -1,19 +1,23 @@
 //! Running a script as a client that starts from an image.
-ghost use Rattle.std.specs.Prelude.{◌≡◌, ◌<◌, ◌≤◌, ◌+◌, ◌*◌, ◌^◌, true, None, Ok, string_bytes, List, ℕ, IfErr, IfOk, IsTrue, OnOk};
+ghost use Rattle.std.specs.Prelude.{◌≡◌, ◌<◌, ◌≤◌, ◌+◌, ◌*◌, ◌^◌, true, None, Ok, string_bytes, List, ℕ, IfErr, IfOk, IsErrOf, IsTrue, OnOk};
 ghost use Rattle.std.specs.List.{list_all};
 ghost use Rattle.sr_calls.specs.ClientEnds.{room_of};
 ghost use Rattle.sr_client.specs.Stands.{StandsFor};
 ghost use Rattle.sr_dial.specs.Following.{Ahead};
 ghost use Rattle.sr_dial.specs.declared.ending.Ending.TheVariants.{Whole};
+ghost use Rattle.sr_image.specs.Found.{Answers};
 ghost use Rattle.sr_image.specs.Laws.{is_image};
 ghost use Rattle.sr_image.specs.Reading.{image_in};
 ghost use Rattle.sr_query.specs.Bound.{is_table};
 ghost use Rattle.sr_session.specs.Clients.{Client as Past};
 ghost use Rattle.sr_talk.specs.Rounds.{OnlyOutput};
 ghost use Rattle.sr_words.specs.declared.command.ClientKind.TheVariants.{Client as AsClient};
-ghost use Rattle.sr_cli.specs.Image.{AreShortFiles, BeginsAs, CountsWarm, IsWarmed, RanOn, StopsOn, StopsWarming, StopsWarmingFiles, StopsWarmingOf, WarmsOf, WarmsOver, image_text, start_text};
+ghost use Rattle.sr_cli.specs.Image.{AreNotWarmHeld, AreShortFiles, BeginsAs, CountsWarm, IsWarmed, RanOn, StopsOn, StopsWarming, StopsWarmingFiles, StopsWarmingOf, WarmsOf, WarmsOver, image_text, start_text};
 ghost use Rattle.sr_cli.specs.Files.{IsWhatIsHeld};
 ghost use Rattle.sr_cli.specs.Leaves.{Leaves, Names, OnlyComplains, OnlyRuns};
+ghost use Rattle.sr_cli.specs.declared.report.Refusal.TheVariants.{Read};
+ghost use Rattle.sr_cli.specs.declared.stop.Stop.TheVariants.{Refused};
+ghost use Rattle.sr_cli.specs.declared.warm.WarmStop.TheVariants.{Stopped};
 
 use crate::client::read_files;
 use crate::file::read_file;
@@ -68,7 +72,7 @@ pub(crate) fn run_warm<H: Host>(alloc: Global, words: &WarmWords, host: &mut H) 
     requires first { 1 ≤ words.now.client.id }
     requires last { words.now.client.id ≤ 64 }
     requires regions { words.now.client.limits.regions ≤ 1024 }
-    ensures warms { WarmsOver H H.held H.reading H.writing H.linking H.complaints host.old host.new words.now result }
+    ensures warms { WarmsOver H H.held H.reading H.writing H.linking H.complaints H.IsSteady host.old host.new words.now result }
     ensures leaves { Leaves H H.held H.reading H.writing H.linking H.complaints H.IsSteady host.old host.new result }
 {
     match warm_files(alloc, words, host) {
@@ -89,7 +93,8 @@ fn warm_files<H: Host>(alloc: Global, words: &WarmWords, host: &mut H) -> Result
     requires regions { words.now.client.limits.regions ≤ 1024 }
     ensures whole { OnOk result (IsWarmed H H.held H.linking H.writing host.old host.new words.now Whole) }
     ensures stopped { IfErr result (StopsWarming H H.held H.reading H.linking H.writing host.old host.new words.now) }
-    ensures reading_keeps_faults { IsErrOf result (Stopped (Refused Read)) ⊎ ((H.reading host.new).faults ≡ (H.reading host.old).faults) }
+    ensures steady_reads { H.IsSteady host.old → IsErrOf result (Stopped (Refused Read)) → AreNotWarmHeld (H.held host.old) words.now }
+    ensures counts { CountsWarm H H.reading H.writing H.linking host.old host.new result }
     ensures stays { OnlyRuns H H.held H.complaints H.IsSteady host.old host.new }
 {
     let files = match read_files(alloc, &words.client, host) {
@@ -129,7 +134,7 @@ fn warm_read<H: Host>(
         Ok(set_up) => set_up,
         Err(no) => return Err(WarmStop::Stopped(stop_of(no))),
     };
-    let image = match read_image(alloc, &schema, read.image.as_slice()) {
+    let image = match image_over(alloc, &schema, read.image.as_slice()) {
         Ok(image) => image,
         Err(No::NoMemory) => return Err(WarmStop::Stopped(Stop::Refused(Refusal::Memory))),
         Err(No::Refused(fault)) => return Err(WarmStop::NoImage(fault)),
@@ -139,6 +144,14 @@ fn warm_read<H: Host>(
         Ok(()) => Ok(()),
         Err(stop) => Err(WarmStop::Stopped(stop)),
     }
+}
+
+/// The image that the bytes are over these tables.
+fn image_over(alloc: Global, schema: &Schema, bytes: &[u8]) -> Result<Image, No<ImageFault>>
+    ensures is { Answers result (image_in schema.now bytes.now) }
+    ensures whole { IfOk result (λ image. IsTrue (is_image schema.now image)) }
+{
+    read_image(alloc, schema, bytes)
 }
 
 /// Runs a plan over these tables as a client that starts from an image.
@@ -237,8 +250,15 @@ fn begin(
         → IfOk result (λ begun. BeginsAs words.now schema.now bytes (string_bytes begun.text) begun.end) }
 {
     let version = image.version;
-    let EndStart { end, marks } =
-        ClientEnd::of_image(alloc, words.id, schema, words.limits, image, false, true)?;
+    let EndStart { end, marks } = ClientEnd::of_image(
+        alloc,
+        words.id,
+        schema,
+        words.limits,
+        image,
+        false,
+        true,
+    )?;
     let text = text_of_start(alloc, schema, words.id, version, marks)?;
     Ok(Begun { end, text })
 }

@@ -14,6 +14,7 @@ pub mod SoFarLemmas
 pub mod DeedLemmas
 pub mod SomeLemmas
 pub mod HonestLemmas
+pub mod LimitLemmas
 pub mod TrueLemmas
 pub mod ServedLemmas
 pub mod PlanLemmas

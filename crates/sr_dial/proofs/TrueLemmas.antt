@@ -21,9 +21,10 @@ use Rattle.sr_session.proofs.NeverLemmas.{never-refused}
 use Rattle.sr_session.specs.Bases.{basis_of}
 use Rattle.sr_links.specs.Answers.{AreTrueSteps, AsksKeys}
 use Rattle.sr_links.specs.Brought.{Holding}
+use Rattle.sr_links.specs.Counts.{AskFew, HasFewRows, LayFew}
 use Rattle.sr_links.specs.Honest.{Server, Input, IsPrefix, Rests, frames_of, sent_for, server_after, server_at_last}
 use Rattle.sr_links.specs.Steps.{Step, Standing, Deed, Queried, Wrote, Evicted, Took, WasCut, Resumed, too_long, writes, Does, IsFair, AreFair, AreRuled, OnOne, code_after, given_of, past_after, requests_of}
-use Rattle.sr_links.proofs.AnswerLemmas.{answers-are-true, answered-at}
+use Rattle.sr_links.proofs.AnswerLemmas.{answers-are-true, answered-at, few-are-laid}
 use Rattle.sr_links.proofs.BroughtLemmas.{steps-go-by-told}
 use Rattle.sr_links.proofs.DatabaseLemmas.{last-more, sound-before}
 use Rattle.sr_links.proofs.MendLemmas.{AreNearlyRuled, nearly-ruled, nearly-taking, runs}
@@ -34,13 +35,14 @@ use Rattle.sr_talk.proofs.TalkLemmas.{spelled-append}
 use Rattle.sr_plan.specs.Plans.{begun, left}
 use Rattle.sr_plan.proofs.Going.{are-of}
 use Rattle.sr_dial.specs.Following.{dids_of, stage_by}
-use Rattle.sr_dial.specs.Honest.{AreExplained, BrokenRunsGoByTold, HonestRunsAreTrue, IsAskedFor, IsHonest, NamesVersion, NeverFall, RunsGoByTold, came_over}
-use Rattle.sr_dial.specs.Runs.{EndsBy, IsRefused, left_by}
+use Rattle.sr_dial.specs.Honest.{AreExplained, AsksFew, BrokenRunsGoByTold, HonestRunsAreShort, HonestRunsAreTrue, IsAskedFor, IsHonest, NamesVersion, NeverFall, RunsGoByTold, came_over}
+use Rattle.sr_dial.specs.Runs.{EndsBy, IsRefused, left_by, none_taken, taken_after}
 use Rattle.sr_dial.specs.Statuses.{status_of}
 use Rattle.sr_dial.specs.declared.ending.Ending.{Ending}
 use Rattle.sr_dial.specs.declared.ending.Ending.TheVariants as ending
 use Rattle.sr_dial.proofs.CourseLemmas.{all-step, given-step, requests-step, with_step}
 use Rattle.sr_dial.proofs.HonestLemmas.{AreHeard, are-heard, are-honest, are-talks, heard-append, never-spoiled, talk-steps}
+use Rattle.sr_dial.proofs.LimitLemmas.{ask-few, none-out, taken-few}
 use Rattle.sr_dial.proofs.ListLemmas.{fair-append, on-append, steps-append}
 
 -- ---- versions never fall
@@ -136,7 +138,14 @@ module _ {C : Type 0} (IsOf : Standing C) (keys : AsksKeys IsOf) (limits : Limit
       pub are-lawful : AreNearlyRuled c (steps_in (all_done calls)) → AreLawful limits (server_at_last s pieces).database c (steps_in (all_done calls))
       are-lawful ruled = subst (AreLawful limits (server_at_last s pieces).database c) (talk-steps calls)
           (runs (Here own IsOf) keys-here limits (map talk_of calls) pieces s code c h.some h.sound last-tables rests-here
-          (are-talks (Here own IsOf) limits code c calls are heard fair) (subst (AreNearlyRuled c) (sym (talk-steps calls)) ruled) (are-honest s c pieces calls heard h.explained))
+          (are-talks (Here own IsOf) limits code c calls are heard fair) (subst (AreNearlyRuled c) (sym (talk-steps calls)) ruled) (are-honest s c pieces calls heard h.explained)).lawful
+
+      pub few-laid : s.database.log_limit ≤ 500000 → HasFewRows (server_at_last s pieces).database → AskFew (steps_in (all_done calls)) → AreRuled c (steps_in (all_done calls)) → LayFew c (steps_in (all_done calls))
+      few-laid limit rows asks ruled = subst (LayFew c) (talk-steps calls)
+          (few-are-laid (Here own IsOf) limits s code c (map talk_of calls) pieces keys-here
+          (sound-before s.database (server_at_last s pieces).database h.some (last-more s pieces h.some).grows h.sound) (subst (λ schema. list_all is_table schema ≡ true) (sym h.schema_is) tables) h.sound
+          limit rows (subst AskFew (sym (talk-steps calls)) asks) rests-here
+          (are-talks (Here own IsOf) limits code c calls are heard fair) (subst (AreRuled c) (sym (talk-steps calls)) ruled) (are-honest s c pieces calls heard h.explained))
 
       pub true-steps : KeepsToBudgets (basis_of s.database limits) c → AreRuled c (steps_in (all_done calls)) → AreTrueSteps (server_at_last s pieces).database limits c (steps_in (all_done calls))
       true-steps keeps ruled = subst (AreTrueSteps (server_at_last s pieces).database limits c) (talk-steps calls)
@@ -260,3 +269,33 @@ honest-runs-are-true {C} IsOf Has k s pieces code c address plan ended old new b
     by ending.Limit ends is = absurd (let wrong : 11 ≡ 8 = is in omega (arith, wrong))
     by (ending.Spoiled fault) ends is = never-spoiled s c pieces run.ran.earlier run.ran.last heard h.explained fault ends.fault_is ends.whole
     by (ending.Bad why) ends is = never-bad IsOf keys k.limits k.schema tables s pieces code c rests run.ran.earlier run.ran.last h run.ran.are heard fair ruled why ends
+
+-- where the server keeps few changes, no request takes a million frames
+pub honest-runs-are-short : {C : Type 0} (IsOf : Standing C) (Has : Holding C) → HonestRunsAreShort IsOf Has
+honest-runs-are-short {C} IsOf Has k s pieces code c address plan ended old new before after told keys tables rests has asked run h limit rows asks = by ended run.ran.ends
+  where
+    heard : AreHeard c (all_done (run.ran.earlier ++ run.ran.last ∷ []))
+    heard = are-heard k.keeps k.schema 0 c (all_done (run.ran.earlier ++ run.ran.last ∷ [])) run.ran.in_place
+        (are-of IsAskedFor (begun plan) (dids_of k.keeps (all_done (run.ran.earlier ++ run.ran.last ∷ []))) (λ answer. asked) run.ran.goes)
+
+    fair : AreFair (Here k.schema IsOf) k.limits code c (steps_in (all_done (run.ran.earlier ++ run.ran.last ∷ [])))
+    fair = fair-here k.schema IsOf k.limits code c (steps_in (all_done (run.ran.earlier ++ run.ran.last ∷ []))) run.fair
+
+    ruled : AreRuled c (steps_in (all_done (run.ran.earlier ++ run.ran.last ∷ [])))
+    ruled = (steps-go-by-told Has k.limits k.schema code c (steps_in (all_done (run.ran.earlier ++ run.ran.last ∷ []))) told has run.lawful).1
+
+    asks-few : AskFew (steps_in (all_done (run.ran.earlier ++ run.ran.last ∷ [])))
+    asks-few = ask-few k.keeps k.schema 0 c (all_done (run.ran.earlier ++ run.ran.last ∷ [])) run.ran.in_place ruled
+        (are-of AsksFew (begun plan) (dids_of k.keeps (all_done (run.ran.earlier ++ run.ran.last ∷ []))) (λ answer. asks) run.ran.goes) (none-out c rests.out)
+
+    few : (taken_after none_taken (all_done (run.ran.earlier ++ run.ran.last ∷ []))).taken ≤ 501026
+    few = taken-few k.schema c (all_done (run.ran.earlier ++ run.ran.last ∷ [])) run.ran.in_place ruled
+        (few-laid IsOf keys k.limits k.schema tables s pieces code c rests (run.ran.earlier ++ run.ran.last ∷ []) h run.ran.are heard fair limit rows asks-few ruled)
+
+    by : (ended : Ending) → EndsBy ended k.schema (run.ran.earlier ++ run.ran.last ∷ []) (left_by c (run.ran.earlier ++ run.ran.last ∷ [])) run.ran.last.left (left (stage_by k.keeps plan (all_done (run.ran.earlier ++ run.ran.last ∷ [])))) → status_of ended ≢ 11
+    by ending.Whole ends is = absurd (let wrong : 0 ≡ 11 = is in omega (arith, wrong))
+    by ending.Faulty ends is = absurd (let wrong : 5 ≡ 11 = is in omega (arith, wrong))
+    by ending.Unwritten ends is = absurd (let wrong : 4 ≡ 11 = is in omega (arith, wrong))
+    by (ending.Spoiled fault) ends is = absurd (let wrong : 8 ≡ 11 = is in omega (arith, wrong))
+    by (ending.Bad why) ends is = absurd (let wrong : 8 ≡ 11 = is in omega (arith, wrong))
+    by ending.Limit ends is = let many = ends.many in absurd (omega (arith, many, few))

@@ -36,7 +36,7 @@ use Rattle.sr_dial.specs.declared.waiting.Handled.{Handled}
 
 -- a client by its contract: what the traits `Peer`, `Hearer` and `Asks` tell of it
 abbrev pub Contract : Type 0 → Type 1
-Contract C = record { is_of : Standing C; has_told : Holding C; stands : C → Client → Type 0; setting : C → Setting; lent : C → Option Answer; room : C → ℕ }
+Contract C = record { has_told : Holding C; is_of : Standing C; stands : C → Client → Type 0; setting : C → Setting; lent : C → Option Answer; room : C → ℕ }
 
 -- A step is carried out: what it sends is sent, and its lines are written; or, out of memory, a part of that.
 abbrev pub CarriesStep : {H E : Type 0} → (H → Linking) → (H → Writing) → Result Handed E → Bool → List Table → ℕ → Told → H → H → Type 0

@@ -1,5 +1,5 @@
 -- When the link of a run is honest, and what is true of the run then.
-use Rattle.std.specs.Prelude.{ℕ, true, ◌<◌, ◌≤◌, List, [], ◌∷◌, ◌++◌, length, ◌≡◌, ◌≢◌}
+use Rattle.std.specs.Prelude.{ℕ, true, ◌<◌, ◌≤◌, List, [], ◌∷◌, ◌++◌, length, ◌≡◌, ◌≢◌, Ok}
 use Rattle.std.specs.List.{list_all}
 use Rattle.sr_cell.specs.declared.table.Table.{Table}
 use Rattle.sr_io.specs.Told.{Linking, Writing}
@@ -15,8 +15,9 @@ use Rattle.sr_session.specs.Rules.{Outcome, Answered}
 use Rattle.sr_session.specs.Sessions.{Database}
 use Rattle.sr_links.specs.Answers.{AreTrueSteps, AsksKeys}
 use Rattle.sr_links.specs.Brought.{GoByTold, Holding}
+use Rattle.sr_links.specs.Counts.{HasFewRows}
 use Rattle.sr_links.specs.Honest.{Server, Input, IsPrefix, Rests, frames_of, sent_for, server_after, server_at_last}
-use Rattle.sr_links.specs.Steps.{Standing, Step, Deed, Took, given_of, requests_of}
+use Rattle.sr_links.specs.Steps.{Standing, Step, Deed, Queried, Took, given_of, requests_of}
 use Rattle.sr_plan.specs.Plans.{Plan, AllTasks}
 use Rattle.sr_dial.specs.Calls.{Call, Task, Do, Explain, Say, all_done, done_in, steps_in}
 use Rattle.sr_talk.specs.Serving.{spelled}
@@ -89,6 +90,19 @@ HonestRunsAreTrue {C} IsOf Has = (k : Setting) (s : Server) (pieces : List (List
     → AsksKeys IsOf → list_all is_table k.schema ≡ true → Rests IsOf s.database code c → KeepsToBudgets (basis_of s.database k.limits) c → Has k.schema code c told → AllTasks IsAskedFor plan
     → (run : RanFairly C IsOf Has k code c address plan ended old new before after) → IsHonest k.schema s pieces (run.ran.earlier ++ run.ran.last ∷ [])
     → IsTrue (server_at_last s pieces).database k.limits c (run.ran.earlier ++ run.ran.last ∷ []) ended
+
+-- a query has at most four parts
+abbrev pub AsksFew : Task → Type 0
+AsksFew (Do (Queried (Ok q))) = length q.parts ≤ 4
+AsksFew other = Unit {0}
+
+-- So few frames come for each request that a run never ends with 11, where the server's log keeps at most 500,000 changes, its tables have at
+-- most 65,536 rows, and the plan's queries have at most four parts.
+abbrev pub HonestRunsAreShort : {C : Type 0} → Standing C → Holding C → Type 0
+HonestRunsAreShort {C} IsOf Has = (k : Setting) (s : Server) (pieces : List (List Input)) (code : C) (c : Client) (address : List ℕ) (plan : Plan Task Answer) (ended : Ending) (old new : Linking) (before after : Writing) (told : Told)
+    → AsksKeys IsOf → list_all is_table k.schema ≡ true → Rests IsOf s.database code c → Has k.schema code c told → AllTasks IsAskedFor plan
+    → (run : RanFairly C IsOf Has k code c address plan ended old new before after) → IsHonest k.schema s pieces (run.ran.earlier ++ run.ran.last ∷ [])
+    → s.database.log_limit ≤ 500000 → HasFewRows (server_at_last s pieces).database → AllTasks AsksFew plan → status_of ended ≢ 11
 
 -- ---- over any link
 

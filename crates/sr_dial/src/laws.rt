@@ -1,5 +1,5 @@
 //! Laws of runs of `client`: functions that do nothing, and whose contracts are the laws.
-ghost use Rattle.sr_dial.specs.Honest.{BrokenRunsGoByTold, HonestRunsAreTrue, RunsGoByTold};
+ghost use Rattle.sr_dial.specs.Honest.{BrokenRunsGoByTold, HonestRunsAreShort, HonestRunsAreTrue, RunsGoByTold};
 ghost use Rattle.sr_dial.specs.Listed.{ListsAreDoneInOrder};
 ghost use Rattle.sr_dial.specs.Served.{ServedCallsAreExplained};
 
@@ -12,6 +12,11 @@ use sr_talk::parts::Serves;
 /// meanwhile.
 pub fn honest_runs_are_true<C: Peer + Hearer>()
     ensures { HonestRunsAreTrue C.is_of C.has_told }
+{}
+
+/// No run ends with 11 over an honest link, where the server's log keeps at most 500,000 changes and its tables have at most 65,536 rows.
+pub fn honest_runs_are_short<C: Peer + Hearer>()
+    ensures { HonestRunsAreShort C.is_of C.has_told }
 {}
 
 /// Over any link, whatever the peer is, each step of a run goes by the client's rules, on the rows that the frames brought, and the client

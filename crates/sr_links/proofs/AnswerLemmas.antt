@@ -21,6 +21,7 @@ use Rattle.sr_session.specs.Sessions.{Database, newest, tables_of}
 use Rattle.sr_session.specs.Bases.{basis_of}
 use Rattle.sr_session.proofs.PointLemmas.{query-silent}
 use Rattle.sr_links.specs.Answers.{query_out, IsTrueAnswer, IsTrueAsk, IsSilentIfCovered, FitsIf, AreTrueSteps, AnswersAreTrue, ServedAnswersAreTrue, WholeTalksEndFree}
+use Rattle.sr_links.specs.Counts.{FewAreLaid}
 use Rattle.sr_links.specs.Honest.{Server, Input, Rests, server_at_last, steps_of}
 use Rattle.sr_links.specs.Steps.{Deed, Queried, Wrote, Evicted, Took, WasCut, Resumed, too_long, writes, Does, Standing, Step}
 use Rattle.sr_links.proofs.BudgetLemmas.{keeps-later, keeps-on}
@@ -146,7 +147,7 @@ module _ {C : Type 0} (IsOf : Standing C) (limits : Limits) (s : Server) (code :
 pub answers-are-true : {C : Type 0} (IsOf : Standing C) → AnswersAreTrue IsOf
 answers-are-true {C} IsOf limits s code c talks pieces keys first_sound tables sound rest keeps are ruled honest =
     true-at-last IsOf limits s code c pieces first_sound rest (steps_of talks) keeps
-    (runs IsOf keys limits talks pieces s code c first_sound.some sound (tables-at-last IsOf limits s code c pieces first_sound rest tables) rest are (nearly-ruled c (steps_of talks) ruled) honest)
+    (runs IsOf keys limits talks pieces s code c first_sound.some sound (tables-at-last IsOf limits s code c pieces first_sound rest tables) rest are (nearly-ruled c (steps_of talks) ruled) honest).lawful
 
 pub served-answers-are-true : {C : Type 0} (IsOf : Standing C) → ServedAnswersAreTrue IsOf
 served-answers-are-true {C} IsOf limits s code c talks pieces keys closed behind first_sound tables sound rest keeps are honest =
@@ -156,4 +157,9 @@ served-answers-are-true {C} IsOf limits s code c talks pieces keys closed behind
 pub whole-talks-end-free : {C : Type 0} (IsOf : Standing C) → WholeTalksEndFree IsOf
 whole-talks-end-free {C} IsOf limits s code c talk inputs keys closed uncut first_sound tables sound rest is explains no_frame no_message =
     let more = after-more s inputs first_sound.some in
-    (one-connection IsOf keys limits s code c talk inputs sound (subst (λ schema. list_all is_table schema ≡ true) (sym more.grows.schema) tables) closed uncut first_sound.some rest is explains).free no_frame no_message
+    (one-connection ⊥ IsOf keys limits s code c talk inputs sound (subst (λ schema. list_all is_table schema ≡ true) (sym more.grows.schema) tables) closed uncut first_sound.some (λ no. absurd no) rest is explains).free no_frame no_message
+
+pub few-are-laid : {C : Type 0} (IsOf : Standing C) → FewAreLaid IsOf
+few-are-laid {C} IsOf limits s code c talks pieces keys first_sound tables sound limit rows asks rest are ruled honest =
+    (runs IsOf keys limits talks pieces s code c first_sound.some sound (tables-at-last IsOf limits s code c pieces first_sound rest tables) rest are (nearly-ruled c (steps_of talks) ruled) honest).few
+    (limit, rows, asks)

@@ -60,7 +60,7 @@ module _ {C : Type 0} (IsOf : Standing C) (limits : Limits) (s : Server) (code :
 pub clients-have-the-rows : {C : Type 0} (IsOf : Standing C) → ClientsHaveTheRows IsOf
 clients-have-the-rows {C} IsOf limits s code c talks pieces keys first_sound tables sound rest are ruled honest =
     rows-at-last IsOf limits s code c talks pieces first_sound rest are
-    (runs IsOf keys limits talks pieces s code c first_sound.some sound (tables-at-last IsOf limits s code c talks pieces first_sound rest are tables) rest are (nearly-ruled c (steps_of talks) ruled) honest)
+    (runs IsOf keys limits talks pieces s code c first_sound.some sound (tables-at-last IsOf limits s code c talks pieces first_sound rest are tables) rest are (nearly-ruled c (steps_of talks) ruled) honest).lawful
 
 pub served-clients-have-the-rows : {C : Type 0} (IsOf : Standing C) → ServedClientsHaveTheRows IsOf
 served-clients-have-the-rows {C} IsOf limits s code c talks pieces keys closed behind first_sound tables sound rest are honest =

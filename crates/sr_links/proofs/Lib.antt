@@ -1,6 +1,8 @@
 pub mod DatabaseLemmas
 pub mod PairLemmas
 pub mod RuleLemmas
+pub mod CountLemmas
+pub mod FewLemmas
 pub mod TalkLemmas
 pub mod MendLemmas
 mod BudgetLemmas

@@ -1,5 +1,5 @@
 -- Wherever the session is closed in a list, what it sends is what a list sends that begins without a session and is never cut off.
-use Rattle.std.proofs.Common.{◌≡◌, ℕ, zero, suc, ◌+◌, ◌-◌, ◌<◌, Bool, true, false, List, [], ◌∷◌, ◌++◌, length, map, refl, sym, ◌∙◌, ap, subst, inl, inr, Option, Some, None, append_assoc}
+use Rattle.std.proofs.Common.{◌≡◌, ℕ, zero, suc, ◌+◌, ◌-◌, ◌<◌, ◌≤◌, Bool, true, false, List, [], ◌∷◌, ◌++◌, length, map, refl, sym, ◌∙◌, ap, subst, inl, inr, Option, Some, None, append_assoc}
 use Rattle.std.specs.Prelude.{◌⊎◌, Result, Ok, Err}
 use Rattle.std.specs.List.{list_all}
 use Rattle.sr_cell.specs.declared.fault.Fault.{Fault}
@@ -18,8 +18,10 @@ use Rattle.sr_session.specs.Rules.{Basis, Outcome, sent_of, ResumeStep, already_
 use Rattle.sr_session.specs.Scenes.{taken}
 use Rattle.sr_session.specs.Sessions.{Database, Session, newest, tables_of, with_version, notice, notices, told_at, due, due_if, is_lost, row_messages, pieces, asked_rows, reply_messages}
 use Rattle.sr_links.specs.Answers.{AsksKeys}
+use Rattle.sr_links.specs.Counts.{AreShortAsks, AskFew, HasFewRows, LayFew}
 use Rattle.sr_links.specs.Honest.{Server, Input, Version, Frame, CutOff, Answer, answer, silent, cut_off, server_after, server_at_last, sent_for, frame_of, frames_of, has_cut, IsPrefix, Explains, Rests, Talk, IsTalk, AreTalks, IsHonest, IsClosedBehind, AreClosedBehind, steps_in, steps_of}
 use Rattle.sr_links.specs.Steps.{Deed, Queried, Wrote, Evicted, Took, WasCut, Resumed, Does, Standing, Step, AreRuled, AreAwaited, OnOne, taken_by, given_of, requests_of, past_after, code_after}
+use Rattle.sr_links.proofs.CountLemmas.{AreShortAnswers, after-log, asks-front, few-back, few-front, lay-append, requests-short, short-answers}
 use Rattle.sr_links.proofs.DatabaseLemmas.{More, Grows, grows-on, after-more, last-more, sound-before}
 use Rattle.sr_links.proofs.RuleLemmas.{IsGreeting, IsOther, AreOthers, AreNoWelcome, plain, IsMute, StaysMute, mute-step, IsResumed, StaysUnheard, HeardIf, unheard-step}
 use Rattle.sr_links.proofs.TalkLemmas.{AreLawful, Ended, one-connection}
@@ -399,19 +401,33 @@ module _ {C : Type 0} (IsOf : Standing C) (keys : AsksKeys IsOf) (limits : Limit
   lawful-append all c [] more lawful then_more = then_more
   lawful-append all c (step ∷ steps) more (one, others) then_more = (one, lawful-append all step.past steps more others then_more)
 
-  record AreLawfulThen (db : Database) (code : C) (c : Client) (steps : List (Step C)) : Type 0 where
+  -- a server whose log keeps few changes, and that has few rows in its last tables, is asked few parts
+  abbrev IsSmall : ℕ → Database → List (Step C) → Type 0
+  IsSmall limit all steps = (limit ≤ 500000) × HasFewRows all × AskFew steps
+
+  -- what is so of the steps of many connections
+  pub record RunsOn (limit : ℕ) (all : Database) (c : Client) (steps : List (Step C)) : Type 0 where
+    pub lawful : AreLawful limits all c steps
+    pub few : IsSmall limit all steps → LayFew c steps
+
+  record AreLawfulThen (small : Type 0) (db : Database) (code : C) (c : Client) (steps : List (Step C)) : Type 0 where
     pub lawful : AreLawful limits db c steps
+    pub few : small → LayFew c steps
     pub ends : (past_after c steps).cut ≡ true → Rests IsOf db (code_after code steps) (past_after c steps)
 
   pub runs : (talks : List (Talk C)) (pieces : List (List Input)) (s : Server) (code : C) (c : Client) → 0 < length s.database.versions → IsSound (server_at_last s pieces).database
       → list_all is_table (server_at_last s pieces).database.schema ≡ true
-      → Rests IsOf s.database code c → AreTalks IsOf limits code c talks → AreNearlyRuled c (steps_of talks) → IsHonest s pieces talks → AreLawful limits (server_at_last s pieces).database c (steps_of talks)
-  runs [] [] s code c some sound tables rest are ruled honest = tt
+      → Rests IsOf s.database code c → AreTalks IsOf limits code c talks → AreNearlyRuled c (steps_of talks) → IsHonest s pieces talks → RunsOn s.database.log_limit (server_at_last s pieces).database c (steps_of talks)
+  runs [] [] s code c some sound tables rest are ruled honest = record { lawful = tt; few = λ small. tt }
   runs [] (piece ∷ pieces) s code c some sound tables rest are ruled honest = absurd honest
   runs (talk ∷ talks) [] s code c some sound tables rest are ruled honest = absurd honest
   runs (talk ∷ talks) (piece ∷ pieces) s code c some sound tables rest (is, ends, others) ruled (explains, honest) =
-      lawful-append all c (steps_in talk) (steps_of talks) (lawful-on here.database all rests_of.grows c (steps_in talk) one.lawful)
-      (later (λ is_rest. runs talks pieces here (code_after code (steps_in talk)) (past_after c (steps_in talk)) come.some sound tables is_rest others (ruled-back c (steps_in talk) (steps_of talks) ruled) honest) ends)
+      let more = later (λ is_rest. runs talks pieces here (code_after code (steps_in talk)) (past_after c (steps_in talk)) come.some sound tables is_rest others (ruled-back c (steps_in talk) (steps_of talks) ruled) honest) ends in
+      record {
+        lawful = lawful-append all c (steps_in talk) (steps_of talks) (lawful-on here.database all rests_of.grows c (steps_in talk) one.lawful) more.lawful;
+        few = λ is_small. lay-append c (steps_in talk) (steps_of talks) (one.few (is_small.0, is_small.1, few-front (steps_in talk) (steps_of talks) is_small.2))
+            (more.few (subst (λ n. n ≤ 500000) (sym (after-log s piece)) is_small.0, is_small.1, few-back (steps_in talk) (steps_of talks) is_small.2));
+      }
     where
       here : Server
       here = server_after s piece
@@ -437,19 +453,28 @@ module _ {C : Type 0} (IsOf : Standing C) (keys : AsksKeys IsOf) (limits : Limit
       mended_tables : list_all is_table mended.schema ≡ true
       mended_tables = subst (λ db. list_all is_table db.schema ≡ true) e.database (subst (λ schema. list_all is_table schema ≡ true) rests_of.grows.schema tables)
 
-      own : Ended IsOf keys limits mended mended_sound mended_tables e.explains.frames.rest e.explains.given.rest code c (steps_in talk)
-      own = one-connection IsOf keys limits (cut_off s) code c talk (mend s.session piece) mended_sound mended_tables refl (uncut-mend s.session piece) some rest is e.explains
+      small : Type 0
+      small = IsSmall s.database.log_limit all (steps_in talk)
 
-      one : AreLawfulThen here.database code c (steps_in talk)
+      short : small → AreShortAnswers (cut_off s) (mend s.session piece)
+      short (limit, rows, asks) =
+          short-answers (mend s.session piece) (cut_off s) all some (subst (λ db. Grows db all) e.database rests_of.grows) limit rows
+          (asks-front (frames_of (mend s.session piece)) e.explains.frames.rest (subst AreShortAsks e.explains.frames.all (requests-short (steps_in talk) asks)))
+
+      own : Ended small IsOf keys limits mended mended_sound mended_tables e.explains.frames.rest e.explains.given.rest code c (steps_in talk)
+      own = one-connection small IsOf keys limits (cut_off s) code c talk (mend s.session piece) mended_sound mended_tables refl (uncut-mend s.session piece) some short rest is e.explains
+
+      one : AreLawfulThen small here.database code c (steps_in talk)
       one = record {
         lawful = subst (λ db. AreLawful limits db c (steps_in talk)) (sym e.database) own.lawful;
+        few = own.few;
         ends = λ cut. subst (λ db. Rests IsOf db (code_after code (steps_in talk)) (past_after c (steps_in talk))) (sym e.database) (own.ends cut);
       }
 
-      later : (Rests IsOf here.database (code_after code (steps_in talk)) (past_after c (steps_in talk)) → AreLawful limits all (past_after c (steps_in talk)) (steps_of talks))
-          → (past_after c (steps_in talk)).cut ≡ true ⊎ (talks ≡ []) → AreLawful limits all (past_after c (steps_in talk)) (steps_of talks)
+      later : (Rests IsOf here.database (code_after code (steps_in talk)) (past_after c (steps_in talk)) → RunsOn here.database.log_limit all (past_after c (steps_in talk)) (steps_of talks))
+          → (past_after c (steps_in talk)).cut ≡ true ⊎ (talks ≡ []) → RunsOn here.database.log_limit all (past_after c (steps_in talk)) (steps_of talks)
       later go_on (inl is_cut) = go_on (one.ends is_cut)
-      later go_on (inr none) = subst (λ ts. AreLawful limits all (past_after c (steps_in talk)) (steps_of ts)) (sym none) tt
+      later go_on (inr none) = subst (λ ts. RunsOn here.database.log_limit all (past_after c (steps_in talk)) (steps_of ts)) (sym none) (record { lawful = tt; few = λ small. tt })
 
   -- ---- where the session is closed behind each connection
 
@@ -522,12 +547,13 @@ module _ {C : Type 0} (IsOf : Standing C) (keys : AsksKeys IsOf) (limits : Limit
       last_tables : list_all is_table last.schema ≡ true
       last_tables = subst (λ db. list_all is_table db.schema ≡ true) same (subst (λ schema. list_all is_table schema ≡ true) rests_of.grows.schema tables)
 
-      own : Ended IsOf keys limits last last_sound last_tables b.explains.frames.rest b.explains.given.rest code c (steps_in talk)
-      own = one-connection IsOf keys limits s code c talk b.inputs last_sound last_tables closed b.uncut some rest is b.explains
+      own : Ended ⊥ IsOf keys limits last last_sound last_tables b.explains.frames.rest b.explains.given.rest code c (steps_in talk)
+      own = one-connection ⊥ IsOf keys limits s code c talk b.inputs last_sound last_tables closed b.uncut some (λ no. absurd no) rest is b.explains
 
-      one : AreLawfulThen here.database code c (steps_in talk)
+      one : AreLawfulThen ⊥ here.database code c (steps_in talk)
       one = record {
         lawful = subst (λ db. AreLawful limits db c (steps_in talk)) (sym same) own.lawful;
+        few = own.few;
         ends = λ cut. subst (λ db. Rests IsOf db (code_after code (steps_in talk)) (past_after c (steps_in talk))) (sym same) (own.ends cut);
       }
 

@@ -4,3 +4,4 @@ pub mod Queried
 pub mod Outs
 pub mod Answers
 pub mod Brought
+pub mod Counts

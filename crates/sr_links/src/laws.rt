@@ -5,6 +5,7 @@ ghost use Rattle.sr_session.specs.Clients.{Client};
 ghost use Rattle.std.specs.Prelude.{List};
 ghost use Rattle.sr_store.specs.Told.{Told};
 ghost use Rattle.sr_links.specs.Brought.{StepsGoByTold};
+ghost use Rattle.sr_links.specs.Counts.{FewAreLaid};
 ghost use Rattle.sr_links.specs.Answers.{AnswersAreTrue, ServedAnswersAreTrue, WholeTalksEndFree, LinesAnswerTheirQueries, ClientsHaveTheRows, ServedClientsHaveTheRows};
 
 /// A client of which only this is known: when it stands for a past, with the rows of some tables of a schema.
@@ -43,6 +44,12 @@ pub fn clients_have_the_rows<C: Peer>()
 /// The same where the session is closed behind each connection and nowhere else, of a client of which nothing is known over other links.
 pub fn served_clients_have_the_rows<C: Peer>()
     ensures { ServedClientsHaveTheRows C.is_of }
+{}
+
+/// Over an honest link no more messages are laid by for one request than one frame is answered with, where the server's log keeps at most
+/// 500,000 changes and its tables have at most 65,536 rows: 501,026.
+pub fn few_are_laid<C: Peer>()
+    ensures { FewAreLaid C.is_of }
 {}
 
 /// A client of which this is known on any link: when it stands for a past, with rows that were told of tables of a schema.

@@ -14,4 +14,5 @@ pub mod Updating
 pub mod Deleting
 pub mod Placing
 pub mod Ends
+pub mod InTurn
 pub mod Outcomes

@@ -2,3 +2,4 @@ pub mod Stored
 pub mod Inserts
 pub mod Added
 pub mod Steps
+pub mod Turns

@@ -13,4 +13,5 @@ mod put;
 mod select;
 mod span;
 pub mod tables;
+mod turns;
 mod update;

@@ -8,6 +8,7 @@ ghost use Rattle.sr_box.specs.Spans.{in_span, is_below};
 ghost use Rattle.sr_box.specs.Points.{in_rect, in_any};
 ghost use Rattle.sr_keyed.specs.Keyed.{is_from, is_up_to};
 
+use crate::turns::near_in_turn;
 use sr_box::rect::Rect;
 use sr_box::span::Span;
 use sr_cell::attrs::Attrs;
@@ -69,7 +70,7 @@ fn high_of(alloc: Global, span: &Span) -> Option<Cell>
     }
 }
 
-fn low_in(alloc: Global, rect: &Rect, column: usize) -> Option<Cell>
+pub(crate) fn low_in(alloc: Global, rect: &Rect, column: usize) -> Option<Cell>
     ensures { IfSome result (λ low. (row : TheRow) → in_rect rect.now row ≡ true → cell_le low (cell_at row column) ≡ true) }
 {
     match rect.get(column) {
@@ -78,7 +79,7 @@ fn low_in(alloc: Global, rect: &Rect, column: usize) -> Option<Cell>
     }
 }
 
-fn high_in(alloc: Global, rect: &Rect, column: usize) -> Option<Cell>
+pub(crate) fn high_in(alloc: Global, rect: &Rect, column: usize) -> Option<Cell>
     ensures { IfSome result (λ high. (row : TheRow) → in_rect rect.now row ≡ true → cell_le (cell_at row column) high ≡ true) }
 {
     match rect.get(column) {
@@ -236,7 +237,7 @@ fn near_by_index<'a>(alloc: Global, rows: &'a KeyedRows, rects: &[Rect]) -> Opti
 }
 
 /// Rows with all those in the rects, between their ends of the key.
-fn near_by_key<'a>(
+fn near_between<'a>(
     alloc: Global,
     rows: &'a KeyedRows,
     rects: &[Rect],
@@ -247,6 +248,21 @@ fn near_by_key<'a>(
     let low = lowest(alloc, rects, key);
     let high = highest(alloc, rects, key);
     rows.between(alloc, low.as_ref(), high.as_ref())
+}
+
+/// Rows with all those in the rects, between the ends of each, where the rects lie one above the other by key; else between the ends of
+/// them all.
+fn near_by_key<'a>(
+    alloc: Global,
+    rows: &'a KeyedRows,
+    rects: &[Rect],
+) -> Result<Vec<&'a Row>, NoMemory>
+    ensures { IfOk result (λ near. filter (in_any rects.now) (map (λ r. r.now) near.items) ≡ filter (in_any rects.now) rows.now.rows) }
+{
+    match near_in_turn(alloc, rows, rects)? {
+        Some(near) => Ok(near),
+        None => near_between(alloc, rows, rects),
+    }
 }
 
 /// Rows with all those in the rects, and few others.
@@ -264,7 +280,7 @@ fn near_rows<'a>(
 }
 
 /// The rows in the rects, projected. Only rows between the ends of the rects are looked at, in a column that has an index or
-/// in the key.
+/// in the key; rects that lie one above the other by key are looked up one by one.
 pub(crate) fn select(
     alloc: Global,
     rows: &KeyedRows,

@@ -64,7 +64,7 @@ returns-in-Err-clause-broken_off g c = λ ahead follows.
     let stands = subst (λ (e : End). Stands e new_past) (sym is) (new_stands words.id schema words.limits false false c.requires.tables) in
     let there = subst (λ (s : List Table). g.P.Plans.follows s c.args.plans.now ahead) (sym c.as_slice.ensures) follows in
     let part = broke_new words.id words.address schema words.limits false false (Next 0 (Do Resumed) ahead) old new before after c.requires.tables
-        (subst (λ (e : End). RanOff e new_past words.address (Next 0 (Do Resumed) ahead) old new before after) is
-        (subst (λ (a : List ℕ). RanOff c.in_ok-end.end new_past a (Next 0 (Do Resumed) ahead) old new before after) c.as_str-address.ensures
-        (c.in-Err.ensures.broken_off new_past ahead stands refl refl there))) in
+    (subst (λ (e : End). RanOff e new_past words.address (Next 0 (Do Resumed) ahead) old new before after) is
+    (subst (λ (a : List ℕ). RanOff c.in_ok-end.end new_past a (Next 0 (Do Resumed) ahead) old new before after) c.as_str-address.ensures
+    (c.in-Err.ensures.broken_off new_past ahead stands refl refl there))) in
     inr (saves-nothing words schema ahead old new before after part)

@@ -1,11 +1,12 @@
-use Rattle.std.proofs.Common.{◌≡◌, Err, inl, sym, subst, ◌∙◌}
+use Rattle.std.proofs.Common.{Err, inl, sym, ap, subst, ◌∙◌}
 use Rattle.std.proofs.lemmas.Result.{IfErr-weaker}
 use Rattle.sr_cli.specs.Client.{AreFiles, files_of}
 use Rattle.sr_cli.specs.Image.{SaveStopsOver}
 use Rattle.sr_cli.specs.Leaves.{NotRead}
 use Rattle.sr_cli.specs.declared.stop.Stop.TheVariants.{Refused}
+use Rattle.sr_cli.proofs.Endings.{one_stop}
 use Rattle.sr_cli.proofs.ImageLemmas.{counts-saved, stops-over}
-use Rattle.sr_cli.proofs.LeavesLemmas.{counts-unread, unread-as}
+use Rattle.sr_cli.proofs.LeavesLemmas.{counts-unread, err-of, read-failed, unread-as}
 use Rattle.sr_cli.proofs.save.save_files.Goals as goal
 
 pub save_read-requires-clause-files : goal.save_read-requires-clause-files
@@ -52,3 +53,10 @@ returns-in-Err-clause-counts g c =
     rw c.unread.ensures
     (counts-unread _ g.H.Outside.held g.H.Outside.reading g.H.Outside.writing g.H.Outside.linking g.H.Outside.complaints g.H.Outside.IsSteady (files_of c.args.words.now) (g.H.Outside.held c.args.host.now) c.args.host.now c.read_files.new.host
     c.in-Err.fault c.in-Err.ensures.not_read c.read_files.ensures.stays.writing_stays c.read_files.ensures.stays.linking_stays)
+
+pub returns-in-Ok-clause-steady_reads : goal.returns-in-Ok-clause-steady_reads
+returns-in-Ok-clause-steady_reads g c = λ steady failed schema script are. absurd (err-of _ c.save_read.result _ c.save_read.ensures.stopped failed)
+
+pub returns-in-Err-clause-steady_reads : goal.returns-in-Err-clause-steady_reads
+returns-in-Err-clause-steady_reads g c = λ steady failed schema script are.
+    c.in-Err.ensures.steady steady (ap Err (read-failed c.in-Err.fault (ap Err (sym c.unread.ensures ∙ one_stop _ _ failed)))) schema script are

@@ -6,7 +6,7 @@ use Rattle.sr_cell.specs.Cells.{Row, cell_at}
 use Rattle.sr_box.specs.Points.{in_any}
 use Rattle.sr_keyed.specs.Keyed.{is_from, is_up_to}
 use Rattle.sr_tables.proofs.Outcomes.{near-passed}
-use Rattle.sr_tables.proofs.select.near_by_key.Goals as goal
+use Rattle.sr_tables.proofs.select.near_between.Goals as goal
 
 pub returns : goal.returns
 returns c =

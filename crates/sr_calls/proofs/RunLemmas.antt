@@ -68,6 +68,7 @@ run_in_part end left past address plan ended old new before after each from =
       from = run.from;
       goes = run.goes;
       fair = from.run.fair;
+      lawful = from.run.lawful;
       explained = from.run.explained;
       carried = All-append (IsCarried false) run.earlier (run.last ∷ []) run.carried (All-cons (IsCarried false) run.last [] last (All-nil (IsCarried false)));
       last_carried = tt;

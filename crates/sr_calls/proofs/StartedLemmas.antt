@@ -71,6 +71,7 @@ started-runs-are-true id version address schema limits keeps says kept marks c l
 
     same : s.database.schema ≡ c.schema
     same = h.schema_is ∙ sym own
+
     sound : IsSound s.database
     sound = sound-before s.database (server_at_last s pieces).database h.some (last-more s pieces h.some).grows h.sound
 

@@ -4,7 +4,7 @@ use Rattle.std.specs.Prelude.{◌*◌, ◌^◌}
 use Rattle.std.specs.Io.KnownBytes.{Appends}
 use Rattle.std.specs.List.{list_all}
 use Rattle.std.proofs.lemmas.List.{append-nil}
-use Rattle.std.proofs.lemmas.List.Elements.{All-append, All-nil}
+use Rattle.std.proofs.lemmas.List.Elements.{All-append, All-cons, All-nil}
 use Rattle.sr_cell.specs.declared.table.Table.{Table}
 use Rattle.sr_io.specs.Told.{Linking, Writing}
 use Rattle.sr_talk.proofs.SomeLemmas.{all-written}
@@ -70,7 +70,7 @@ run_in_part end left past address plan ended old new before after each from =
       fair = from.run.fair;
       lawful = from.run.lawful;
       explained = from.run.explained;
-      carried = All-append (IsCarried false) run.earlier (run.last ∷ []) run.carried (last, tt);
+      carried = All-append (IsCarried false) run.earlier (run.last ∷ []) run.carried (All-cons (IsCarried false) run.last [] last (All-nil (IsCarried false)));
       last_carried = tt;
       made = run.made;
       dialled = run.dialled;

@@ -16,6 +16,7 @@ use Rattle.sr_store.proofs.Starting.{starts_are_true}
 use Rattle.sr_session.specs.Bases.{basis_of}
 use Rattle.sr_session.specs.Clients as session
 use Rattle.sr_session.specs.Headline.{KeepsToBudgets}
+use Rattle.sr_session.specs.Laws.{IsSound}
 use Rattle.sr_session.specs.Sessions.{Database, tables_of}
 use Rattle.sr_client.specs.Stands.{IsClient}
 use Rattle.sr_client.specs.Starting.{start_past}
@@ -23,8 +24,9 @@ use Rattle.sr_client.specs.declared.client.Client.{Client}
 use Rattle.sr_client.proofs.TableLemmas.{have-first}
 use Rattle.sr_links.specs.Honest.{Rests, server_at_last}
 use Rattle.sr_links.proofs.DatabaseLemmas.{last-more, sound-before}
+use Rattle.sr_dial.specs.Calls.{Call}
 use Rattle.sr_dial.specs.Honest.{IsHonest, IsTrue}
-use Rattle.sr_calls.specs.ClientEnds.{IsEnd, end_with}
+use Rattle.sr_calls.specs.ClientEnds.{End, IsEnd, end_with}
 use Rattle.sr_calls.specs.Started.{StartedRunsAreTrue}
 use Rattle.sr_calls.proofs.HonestLemmas.{runs-from-any-client-are-true}
 
@@ -55,7 +57,10 @@ started-runs-are-true id version address schema limits keeps says kept marks c l
     (runs-from-any-client-are-true s pieces (end_with keeps says c None) left past address plan ended old new before after is.stands.1.tables rests
     (keeps-over s.database c past same (sound.tables version are.within) client) asked run (subst (λ own. IsHonest own s pieces calls) (sym own) h))
   where
+    past : session.Client
     past = start_past schema version kept marks
+
+    calls : List (Call End)
     calls = run.run.ran.earlier ++ run.run.ran.last ∷ []
 
     own : c.schema ≡ schema
@@ -66,6 +71,8 @@ started-runs-are-true id version address schema limits keeps says kept marks c l
 
     same : s.database.schema ≡ c.schema
     same = h.schema_is ∙ sym own
+
+    sound : IsSound s.database
     sound = sound-before s.database (server_at_last s pieces).database h.some (last-more s pieces h.some).grows h.sound
 
     client : IsClient c past (tables_of s.database version)

@@ -149,3 +149,10 @@ pub cut-hands : (C : Type 0) (Stands : C → Client → Type 0) (lent : C → Op
 cut-hands C Stands lent IsOf Has k s ahead further line number failed l mid new_l w new_w feed code new lines sent handed h on m gone carries =
     hands-down C Stands lent IsOf Has k s ahead further line h.came number Scripted code new WasCut lines sent on (omega arith) failed l new_l w new_w feed feed h.at m h.free tt refl handed mid m.link.0 m.link.1 refl
     (ap connections gone ∙ append-nil (connections l)) (ap (λ (x : Linking). x.peers) gone) (ap (λ (x : Linking). x.faults) gone) carries
+
+-- whatever is sent and written, the link stays up or down
+pub carries-up : (says : Bool) (handed : Handed) (l new_l : Linking) (w new_w : Writing) (bytes text : List ℕ) → Carries says handed l new_l w new_w bytes text → new_l.is_up ≡ l.is_up
+carries-up says Whole l new_l w new_w bytes text (is, said) = ap (λ (x : Linking). x.is_up) is
+carries-up says Broken l new_l w new_w bytes text ((part, rose), said) = part.sent.is_up
+carries-up says Unwritten l new_l w new_w bytes text (inl is, said) = ap (λ (x : Linking). x.is_up) is
+carries-up says Unwritten l new_l w new_w bytes text (inr (part, rose), said) = part.sent.is_up

@@ -1,5 +1,5 @@
 //! Steps of a client, carried out over a link.
-ghost use Rattle.std.specs.Prelude.{◌≡◌, ◌≢◌, ◌≤◌, ◌+◌, true, flat_map, string_bytes, Result, IfOk, OnErr, if◌then◌else◌};
+ghost use Rattle.std.specs.Prelude.{◌≡◌, ◌≢◌, ◌≤◌, ◌+◌, true, false, flat_map, string_bytes, Result, IfOk, OnErr, if◌then◌else◌};
 ghost use Rattle.std.specs.List.{All};
 ghost use Rattle.sr_script.specs.TraceText.{line_text};
 ghost use Rattle.sr_wire.specs.Limits.{IsSendable};
@@ -212,6 +212,7 @@ pub(crate) fn end<H: Host, C: Asks>(
     requires room { 2 ≤ C.room client.old }
     ensures cut { CutsLink C.Asks H.linking H.writing result schema.now number event host.old host.new client.old client.new }
     ensures broken_off { CutsOff C.Asks H.linking H.writing result schema.now number event host.old host.new client.old }
+    ensures hangs_up { IfOk result (λ handed. (H.linking host.new).is_up ≡ false) }
     ensures setting { C.setting client.new ≡ C.setting client.old }
     ensures draws { C.room client.old ≤ C.room client.new + 2 }
     ensures stays { OnlyOutput H H.reading H.held H.complaints H.IsSteady host.old host.new }
@@ -275,6 +276,7 @@ pub(crate) fn fail<H: Host, C: Asks>(
     requires room { 2 ≤ C.room client.old }
     ensures failed { FailsLink C.Asks H.linking H.writing result schema.now number host.old host.new client.old client.new }
     ensures broken_off { FailsOff C.Asks H.linking H.writing result schema.now number host.old host.new client.old }
+    ensures hangs_up { IfOk result (λ all. (H.linking host.new).is_up ≡ false) }
     ensures setting { C.setting client.new ≡ C.setting client.old }
     ensures draws { C.room client.old ≤ C.room client.new + 2 }
     ensures stays { OnlyOutput H H.reading H.held H.complaints H.IsSteady host.old host.new }

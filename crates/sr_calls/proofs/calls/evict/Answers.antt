@@ -8,3 +8,6 @@ returns-clause-made c = λ keeps past stands.
 
 pub returns-clause-ready : goal.returns-clause-ready
 returns-clause-ready c = evict_ready c.args.client.now c.evict-step.new.self c.args.place c.evict-step.result c.requires.ready c.evict-step.ensures.evicts c.evict-step.ensures.rest
+
+pub returns-in_err-lines-clause-ready : goal.returns-in_err-lines-clause-ready
+returns-in_err-lines-clause-ready c = evict_ready c.args.client.now c.evict-step.new.self c.args.place c.evict-step.result c.requires.ready c.evict-step.ensures.evicts c.evict-step.ensures.rest

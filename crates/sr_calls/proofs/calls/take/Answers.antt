@@ -31,3 +31,15 @@ returns-in-Bad-clause-ready c =
 pub returns-in_ok-done-in_default-clause-ready : goal.returns-in_ok-done-in_default-clause-ready
 returns-in_ok-done-in_default-clause-ready c =
     took_ready c.args.client.now c.take.new.self c.in_ok-took.took c.args.message c.requires.ready c.in_ok-took.ensures.bad c.in_ok-took.ensures.takes c.in_ok-took.ensures.bad_left c.take.ensures.stays
+
+pub returns-in_err-answer-in_default-clause-ready : goal.returns-in_err-answer-in_default-clause-ready
+returns-in_err-answer-in_default-clause-ready c =
+    took_ready c.args.client.now c.take.new.self c.in_ok-took.took c.args.message c.requires.ready c.in_ok-took.ensures.bad c.in_ok-took.ensures.takes c.in_ok-took.ensures.bad_left c.take.ensures.stays
+
+pub returns-in_err-lines-in_default-clause-ready : goal.returns-in_err-lines-in_default-clause-ready
+returns-in_err-lines-in_default-clause-ready c =
+    took_ready c.args.client.now c.take.new.self c.in_ok-took.took c.args.message c.requires.ready c.in_ok-took.ensures.bad c.in_ok-took.ensures.takes c.in_ok-took.ensures.bad_left c.take.ensures.stays
+
+pub returns-in_err-done-in_default-clause-ready : goal.returns-in_err-done-in_default-clause-ready
+returns-in_err-done-in_default-clause-ready c =
+    took_ready c.args.client.now c.take.new.self c.in_ok-took.took c.args.message c.requires.ready c.in_ok-took.ensures.bad c.in_ok-took.ensures.takes c.in_ok-took.ensures.bad_left c.take.ensures.stays

@@ -1,11 +1,11 @@
-use Rattle.std.proofs.Common.{Err, inl, refl, sym, ap, subst, ◌∙◌}
+use Rattle.std.proofs.Common.{Err, inl, ap, subst, ◌∙◌}
 use Rattle.std.proofs.lemmas.Result.{on_ok_weaker, IfErr-weaker}
 use Rattle.sr_cli.specs.Client.{Stops, StopsBy, StopsOver, files_of}
 use Rattle.sr_cli.specs.Leaves.{NotRead}
 use Rattle.sr_cli.specs.declared.stop.Stop.TheVariants.{Refused}
 use Rattle.sr_cli.proofs.ClientLemmas.{counts-stopped, over-files}
-use Rattle.sr_cli.proofs.Endings.{one_stop}
-use Rattle.sr_cli.proofs.LeavesLemmas.{counts-unread, err-of, read-failed, unread-as, unread-never}
+use Rattle.sr_cli.proofs.Endings.{stop-failed, stop-unwritten}
+use Rattle.sr_cli.proofs.LeavesLemmas.{counts-unread, err-of, unread-as}
 use Rattle.sr_cli.proofs.client.client_files.Goals as goal
 
 pub returns-in-Ok-clause-whole : goal.returns-in-Ok-clause-whole
@@ -65,7 +65,7 @@ returns-in-Err-clause-counts g c =
 
 pub returns-in-Err-clause-steady_reads : goal.returns-in-Err-clause-steady_reads
 returns-in-Err-clause-steady_reads g c = λ steady failed schema script are.
-    c.in-Err.ensures.steady steady (ap Err (read-failed c.in-Err.fault (ap Err (sym c.unread.ensures ∙ one_stop _ _ failed)))) schema script are
+    c.in-Err.ensures.steady steady (ap Err (stop-failed c.in-Err.fault (rw c.unread.ensures at failed))) schema script are
 
 pub returns-in-Err-clause-steady_writes : goal.returns-in-Err-clause-steady_writes
-returns-in-Err-clause-steady_writes g c = λ steady failed. unread-never c.in-Err.fault _ (ap Err (sym c.unread.ensures ∙ one_stop _ _ failed)) (inl refl)
+returns-in-Err-clause-steady_writes g c = λ steady failed. stop-unwritten c.in-Err.fault (rw c.unread.ensures at failed)

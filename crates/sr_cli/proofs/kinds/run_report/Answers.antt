@@ -27,8 +27,8 @@ returns-in-Ok-run_new-clause-ends g c =
     ends_for files.schema files.script words Report c.in-Ok.set_up.schema asked.0 c.in-Ok-run_new.ending _ _ _ _ c.requires.kind asked.1
     (c.in-Ok-run_new.ensures.ran asked.0 asked.2)
 
-pub returns-in-Err-run_new-clause-stopped : goal.returns-in-Err-run_new-clause-stopped
-returns-in-Err-run_new-clause-stopped g c =
+pub returns-clause-stopped : goal.returns-clause-stopped
+returns-clause-stopped g c =
     let files = c.args.files.now in
     let words = c.args.words.now in
     let asked = rw (c.as_slice.ensures, c.as_slice-2.ensures) at c.in-Ok.ensures.asked in

@@ -6,7 +6,8 @@ use Rattle.sr_talk.specs.Serving.{spelled}
 use Rattle.sr_dial.specs.Carrying.{Carries, CarriesInPart}
 use Rattle.sr_dial.specs.Known.{IsDeed, Makes, Setting}
 use Rattle.sr_dial.specs.Runs.{left_by}
-use Rattle.sr_dial.proofs.HandLemmas.{cut-hands}
+use Rattle.sr_io.specs.Told.{Linking}
+use Rattle.sr_dial.proofs.HandLemmas.{carries-up, cut-hands}
 use Rattle.sr_dial.proofs.Results.{if-ok, on-err}
 use Rattle.sr_talk.proofs.MoveLemmas.{so-in-err}
 use Rattle.sr_dial.proofs.OffLemmas.{off-free, cut-off}
@@ -46,3 +47,7 @@ returns-clause-broken_off g c k s ahead further line failed feed same schema fre
     (subst (λ x. CarriesInPart k.says (g.H.Outside.linking c.hang_up.new.self) (g.H.Outside.linking c.carry.new.host) (g.H.Outside.writing c.args.host.now) (g.H.Outside.writing c.carry.new.host) (spelled told.sent) (flat_map (line_text x c.args.number) told.lines)) schema
     (subst (λ w. CarriesInPart k.says (g.H.Outside.linking c.hang_up.new.self) (g.H.Outside.linking c.carry.new.host) w (g.H.Outside.writing c.carry.new.host) (spelled told.sent) (flat_map (line_text c.args.schema.now c.args.number) told.lines)) c.hang_up.ensures.writing_stays
     (subst (λ b. CarriesInPart b (g.H.Outside.linking c.hang_up.new.self) (g.H.Outside.linking c.carry.new.host) (g.H.Outside.writing c.hang_up.new.self) (g.H.Outside.writing c.carry.new.host) (spelled told.sent) (flat_map (line_text c.args.schema.now c.args.number) told.lines)) spoke carries)))) c.carry.ensures.broken_off
+
+pub returns-clause-hangs_up : goal.returns-clause-hangs_up
+returns-clause-hangs_up g c =
+    if-ok _ _ c.carry.result (λ handed carries. carries-up _ handed _ _ _ _ _ _ carries ∙ ap (λ (x : Linking). x.is_up) c.hang_up.ensures.over) c.carry.ensures.carried

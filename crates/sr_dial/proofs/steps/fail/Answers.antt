@@ -4,6 +4,7 @@ use Rattle.sr_script.specs.TraceText.{line_text}
 use Rattle.sr_links.specs.Steps.{WasCut}
 use Rattle.sr_dial.specs.Carrying.{SaysAs, SaysInPart}
 use Rattle.sr_dial.specs.Known.{Makes, Setting}
+use Rattle.sr_io.specs.Told.{Linking}
 use Rattle.sr_dial.proofs.LineLemmas.{fails-as}
 use Rattle.sr_dial.proofs.Results.{if-ok, on-err}
 use Rattle.sr_talk.proofs.MoveLemmas.{so-in-err}
@@ -43,3 +44,7 @@ returns-clause-broken_off g c k s ahead feed same schema broken =
     (subst (λ x. SaysInPart k.says (g.H.Outside.writing c.hang_up.new.self) (g.H.Outside.writing c.say.new.sink) (flat_map (line_text x c.args.number) lines)) schema
     (subst (λ ls. SaysInPart k.says (g.H.Outside.writing c.hang_up.new.self) (g.H.Outside.writing c.say.new.sink) (flat_map (line_text c.args.schema.now c.args.number) ls)) c.as_slice.ensures
     (subst (λ b. SaysInPart b (g.H.Outside.writing c.hang_up.new.self) (g.H.Outside.writing c.say.new.sink) (flat_map (line_text c.args.schema.now c.args.number) c.as_slice.result.now)) spoke part))))) c.say.ensures.broken_off
+
+pub returns-clause-hangs_up : goal.returns-clause-hangs_up
+returns-clause-hangs_up g c =
+    if-ok _ _ c.say.result (λ said says. ap (λ (x : Linking). x.is_up) (c.say.ensures.linking_stays ∙ c.hang_up.ensures.over)) c.say.ensures.said

@@ -396,7 +396,7 @@ fn push_rows(lines: &mut TraceLines, first: TraceLine, rows: Rows) -> Result<(),
 }
 
 /// The lines of marks, in the order in which they were made.
-fn mark_lines(alloc: Global, client: u8, marks: Marks) -> Result<TraceLines, NoMemory>
+pub fn mark_lines(alloc: Global, client: u8, marks: Marks) -> Result<TraceLines, NoMemory>
     ensures { IfOk result (λ lines. lines ≡ mark_lines client marks) }
 {
     let mut lines = Seq::with_room(alloc, marks.len())?;

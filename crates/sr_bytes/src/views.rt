@@ -31,6 +31,7 @@ const RECTS: u32 = 16_384;
 pub enum CellView<'a> {
     Num(i64),
     Str(&'a str),
+    Null,
 }
 
 /// A span.
@@ -39,6 +40,7 @@ pub enum SpanView<'a> {
     Full,
     Nums { lo: i64, hi: i64 },
     Strs { lo: &'a [u8], hi: Option<&'a [u8]> },
+    Null,
 }
 
 /// The cells that are left of a row.
@@ -166,9 +168,10 @@ impl<'a> Cursor<'a> {
     pub fn cell(&mut self) -> Result<CellView<'a>, BadField>
         ensures { Reads cell_of result self.new (a_cell self.old) }
     {
-        match self.byte_in(0, 1)? {
+        match self.byte_in(0, 2)? {
             0 => Ok(CellView::Num(self.i64()?)),
-            _ => Ok(CellView::Str(self.text(CELL_BYTES)?)),
+            1 => Ok(CellView::Str(self.text(CELL_BYTES)?)),
+            _ => Ok(CellView::Null),
         }
     }
 
@@ -202,14 +205,15 @@ impl<'a> Cursor<'a> {
     pub fn span(&mut self) -> Result<SpanView<'a>, BadField>
         ensures { Reads span_of result self.new (a_span self.old) }
     {
-        match self.byte_in(0, 3)? {
+        match self.byte_in(0, 4)? {
             0 => Ok(SpanView::Full),
             1 => self.numbers(),
             2 => self.texts(),
-            _ => Ok(SpanView::Strs {
-                lo: self.bytes_in(1, BOUND_BYTES)?,
+            3 => Ok(SpanView::Strs {
+                lo: self.bytes_in(0, BOUND_BYTES)?,
                 hi: None,
             }),
+            _ => Ok(SpanView::Null),
         }
     }
 

@@ -89,6 +89,7 @@ pub fn push_cell(out: &mut Bytes, cell: &Cell) -> Result<(), NoMemory>
             out.push(1)?;
             push_text(out, text.as_bytes())
         }
+        Cell::Null => out.push(2),
     }
 }
 
@@ -143,6 +144,7 @@ pub fn push_span(out: &mut Bytes, span: &Span) -> Result<(), NoMemory>
             out.push(3)?;
             push_text(out, lo.as_slice())
         }
+        Span::Null => out.push(4),
     }
 }
 

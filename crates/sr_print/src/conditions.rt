@@ -165,5 +165,6 @@ fn like(printer: &mut Printer, text: &Literal) -> Result<(), NoMemory>
     match &text.cell {
         Cell::Num(number) => printer.number(*number),
         Cell::Str(start) => printer.prefix(start.as_str()),
+        Cell::Null => printer.key("NULL"),
     }
 }

@@ -117,7 +117,7 @@ joined-more s lefts rights i left old new total less is made e =
 
 pub absent_column : (t : Table) → slice_get t.columns t.key ≡ None → (column_at t t.key).name ≡ []
 absent_column t none =
-    let d : Column = record { name = []; kind = kinds.Str; lo = pos 0; hi = pos 0 } in
+    let d : Column = record { name = []; kind = kinds.Str; lo = pos 0; hi = pos 0; nullable = false } in
     ap (λ (c : Column). c.name) (sym (unwrap_or-slice_get t.columns t.key d) ∙ ap (λ o. unwrap_or o d) none)
 
 -- ---- reading

@@ -211,7 +211,7 @@ module _ (schema : List Table) (sql : List ℕ) (u : tree.Select) (q : Query) (t
       let bs = filter (on_part 1) ph.bs in
       let says = says-part schema both 1 two_are.other refl u.filter ph.bs ph.us filtered ph.apart in
       let matches = matches-keys schema two_are.other cs bs keys (sch.differ two_are.other) right-knows.key says in
-      let name = at-place (λ (c : Column). is_name c.name) table.columns table.key (record { name = []; kind = kinds.Str; lo = pos 0; hi = pos 0 }) (and_parts (is_name table.name) (list_all (λ (c : Column). is_name c.name) table.columns) right-knows.names).1 right-knows.key in
+      let name = at-place (λ (c : Column). is_name c.name) table.columns table.key (record { name = []; kind = kinds.Str; lo = pos 0; hi = pos 0; nullable = false }) (and_parts (is_name table.name) (list_all (λ (c : Column). is_name c.name) table.columns) right-knows.names).1 right-knows.key in
       let all = each-append IsSayable cs (key_in table keys ∷ []) (sayable 1) (in-sayable (column_at table table.key).name key more name (all-written keys inside), tt) in
       let text : right_text (sides_of schema (tree.Selects u) q).right keys ≡ text_of table right_part.need (cs ++ key_in table keys ∷ []) =
       ap (λ (p : Part). text_of (table_at schema p.table) p.need (conjuncts_on schema (tables_of q) 1 u.filter ++ key_in (table_at schema p.table) keys ∷ [])) right-is

@@ -1,5 +1,5 @@
 //! Judging the columns of a CREATE: their domains, and the one key.
-ghost use Rattle.std.specs.Prelude.{◌≡◌, ◌≤◌, length, filter, map, IfOk, Ok, Err, IsErrOf};
+ghost use Rattle.std.specs.Prelude.{◌≡◌, ◌≤◌, false, length, filter, map, IfOk, Ok, Err, IsErrOf};
 ghost use Rattle.std.specs.List.{list_any};
 ghost use Rattle.sr_cell.specs.declared.fault.Fault.{Fault as TheFault};
 ghost use Rattle.sr_cell.specs.declared.list.No.TheVariants.{Refused};
@@ -101,7 +101,7 @@ fn first_key(columns: &[Definition]) -> usize
 
 /// The domain of a column: that of its CHECK, or the default; texts have none.
 fn domain(column: &Definition) -> Ends
-    ensures { column_of column.now ≡ record { name = column.now.name; kind = column.now.kind; lo = result.lo; hi = result.hi } }
+    ensures { column_of column.now ≡ record { name = column.now.name; kind = column.now.kind; lo = result.lo; hi = result.hi; nullable = false } }
 {
     for rule in column.rules.as_slice() {
         match rule {
@@ -132,6 +132,7 @@ fn column_of(alloc: Global, column: &Definition) -> Result<Column, NoMemory>
         kind: column.kind,
         lo: domain.lo,
         hi: domain.hi,
+        nullable: false,
     })
 }
 

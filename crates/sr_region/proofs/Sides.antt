@@ -16,10 +16,10 @@ use Rattle.sr_cell.specs.Columns.{is_point}
 use Rattle.sr_box.specs.declared.span.Span.{Span}
 use Rattle.sr_box.specs.declared.span.Span.TheVariants.{Full, Nums, Strs}
 use Rattle.sr_box.specs.Points.{Rect, Points, in_any, times, rect_fits, constrains_only}
-use Rattle.sr_box.specs.Corners.{cuts_of}
+use Rattle.sr_box.specs.Corners.{cuts_of, have_first}
 use Rattle.sr_rows.proofs.Parts.{ascend-filter}
 use Rattle.sr_union.specs.Pieces.{IsMinus}
-use Rattle.sr_union.specs.Grid.{is_among, has_cut, first_cuts, others, CutsAmong, AreCutFrom, have_first}
+use Rattle.sr_union.specs.Grid.{is_among, has_cut, first_cuts, others, CutsAmong, AreCutFrom}
 use Rattle.sr_union.proofs.Times.{in_any-times}
 use Rattle.sr_union.proofs.Parts.{are_part, are_fit}
 use Rattle.sr_union.proofs.Among.{AreCutFrom-append}

@@ -10,9 +10,9 @@ use Rattle.sr_cell.specs.declared.table.Column.{Column}
 use Rattle.sr_cell.specs.declared.table.Table.{Table}
 use Rattle.sr_cell.specs.Columns.{in_kind}
 use Rattle.sr_cell.specs.Names.{is_bad_domain}
-use Rattle.sr_box.specs.Corners.{first_value}
+use Rattle.sr_box.specs.Corners.{first_value, have_first}
 use Rattle.sr_query.specs.Bound.{is_table}
-use Rattle.sr_union.specs.Grid.{all_inner, have_first, is_inner_kind}
+use Rattle.sr_union.specs.Grid.{all_inner, is_inner_kind}
 
 abbrev is_good : Kind → ℤ → ℤ → Bool
 is_good Numbers low high = int_le low high && (int_le (negsuc 1099511627775) low && int_le high (pos 1099511627775))

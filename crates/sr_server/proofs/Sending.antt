@@ -8,7 +8,7 @@ use Rattle.std.proofs.lemmas.List.{length-append, length-map}
 use Rattle.std.proofs.lemmas.List.Folds.{list_all-append}
 use Rattle.std.proofs.lemmas.List.Elements.{All-nil, All-cons, All-append}
 use Rattle.sr_cell.specs.declared.cell.Cell.{Cell}
-use Rattle.sr_cell.specs.declared.cell.Cell.TheVariants.{Num, Str}
+use Rattle.sr_cell.specs.declared.cell.Cell.TheVariants.{Num, Str, Null}
 use Rattle.sr_cell.specs.declared.change.Change.{Change}
 use Rattle.sr_cell.specs.declared.fault.Fault.{Fault}
 use Rattle.sr_cell.specs.declared.table.Column.{Column}
@@ -50,11 +50,12 @@ use Rattle.sr_server.specs.Servers.{are_few, IsSessionIf, IsSound}
 
 -- ---- rows of a table
 
-cell-short : (k : Kind) (low high : ℤ) (v : Cell) → takes_kind k low high v ≡ true → may_write_cell v ≡ true
-cell-short Numbers low high (Num n) h = refl
-cell-short Numbers low high (Str s) h = absurd (cc)
-cell-short Texts low high (Num n) h = refl
-cell-short Texts low high (Str s) h = h
+cell-short : (k : Kind) (low high : ℤ) (nullable : Bool) (v : Cell) → takes_kind k low high nullable v ≡ true → may_write_cell v ≡ true
+cell-short Numbers low high nullable (Num n) h = refl
+cell-short Numbers low high nullable (Str s) h = absurd (cc)
+cell-short Texts low high nullable (Num n) h = refl
+cell-short Texts low high nullable (Str s) h = h
+cell-short kind low high nullable Null h = refl
 
 cells-short : (columns : List Column) (row : Row) → fits_columns columns row ≡ true → list_all may_write_cell row ≡ true
 cells-short [] [] fits = refl
@@ -62,7 +63,7 @@ cells-short [] (v ∷ row) fits = absurd (cc)
 cells-short (c ∷ columns) [] fits = absurd (cc)
 cells-short (c ∷ columns) (v ∷ row) fits =
     let p = and_parts (takes_cell c v) (fits_columns columns row) fits in
-    both_true (cell-short c.kind c.lo c.hi v p.0) (cells-short columns row p.1)
+    both_true (cell-short c.kind c.lo c.hi c.nullable v p.0) (cells-short columns row p.1)
 
 row-may : (table : Table) (row : Row) → HasColumns table → fits_columns table.columns row ≡ true → may_write_row row ≡ true
 row-may table row has fits =

@@ -45,6 +45,14 @@ number-inside : (low high : ℤ) (nullable : Bool) (lo hi n : ℤ) → fits_kind
     → ((int_lt low lo && cell_eq (Num lo) (Num n)) || (int_lt hi high && cell_eq (Num (hi +ℤ pos 1)) (Num n))) ≡ true → inside Numbers low high nullable (Num n) ≡ true
 number-inside low high nullable lo hi n f h = grind (arith, ints)
 
+texts-inside : (low high : ℤ) (nullable : Bool) (lo : List ℕ) (hi : Option (List ℕ)) (v : Cell) → fits_kind Texts low high nullable (Strs lo hi) ≡ true → has_cut Texts low high false (Strs lo hi) v ≡ true
+    → inside Texts low high nullable v ≡ true
+texts-inside low high nullable lo hi v f h = go (is_among (text_cut lo) v) (is_among (end_cut hi) v) (sym (strs-cut low high lo hi v) ∙ h) (text-inside low high nullable lo hi v f) (end-inside low high nullable lo hi v f)
+  where
+    go : (a b : Bool) → (a || b) ≡ true → (a ≡ true → inside Texts low high nullable v ≡ true) → (b ≡ true → inside Texts low high nullable v ≡ true) → inside Texts low high nullable v ≡ true
+    go true b e first second = first refl
+    go false b e first second = second e
+
 -- each cut among the values of a span that fits is inside
 value-inside : (k : Kind) (low high : ℤ) (nullable : Bool) (s : Span) (v : Cell) → fits_kind k low high nullable s ≡ true → has_cut k low high false s v ≡ true → inside k low high nullable v ≡ true
 value-inside Numbers low high nullable Full v f h = absurd (grind arith)
@@ -56,8 +64,7 @@ value-inside Numbers low high nullable (Nums lo hi) (Str t) f h = let e = nums-c
 value-inside Numbers low high nullable (Nums lo hi) NullCell f h = let e = nums-cut low high lo hi NullCell in absurd (grind (arith, e))
 value-inside Texts low high nullable (Nums lo hi) v f h = absurd (grind arith)
 value-inside Numbers low high nullable (Strs lo hi) v f h = absurd (grind arith)
-value-inside Texts low high nullable (Strs lo hi) v f h =
-    let e = strs-cut low high lo hi v in let x = text-inside low high nullable lo hi v f in let y = end-inside low high nullable lo hi v f in grind (arith, e, x, y)
+value-inside Texts low high nullable (Strs lo hi) v f h = texts-inside low high nullable lo hi v f h
 
 -- so is the place before Null
 null-inside : (k : Kind) (low high : ℤ) (nullable : Bool) (v : Cell) → is_among (null_cut nullable) v ≡ true → inside k low high nullable v ≡ true

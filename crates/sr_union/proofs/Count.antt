@@ -13,7 +13,7 @@ use Rattle.sr_cell.specs.declared.table.Kind.TheVariants.{Num as Numbers, Str as
 use Rattle.sr_box.specs.declared.span.Span.{Span}
 use Rattle.sr_box.specs.declared.span.Span.TheVariants.{Full, Nums, Strs, Null}
 use Rattle.sr_cell.specs.Cells.{cell_eq}
-use Rattle.sr_cell.specs.Columns.{in_column, in_kind, is_point}
+use Rattle.sr_cell.specs.Columns.{are_bytes, in_column, in_kind, is_point}
 use Rattle.sr_cell.proofs.Order.{text_le-refl, cell_eq-sound, cell_eq-refl}
 use Rattle.sr_box.specs.Spans.{in_span, end_bytes, fits_kind}
 use Rattle.sr_box.specs.Points.{in_rect, rect_fits, times}

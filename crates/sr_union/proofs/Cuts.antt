@@ -176,6 +176,19 @@ same_end c (Num n) = grind (arith, ints)
 same_end c (Str s) = refl
 same_end c NullCell = refl
 
+under_end : (a b p e c l d : Bool) → (b || (p && e)) ≡ true → e ≡ c → l ≡ true → ((a || b) || ((l && c) || d)) ≡ true
+under_end true b p e c l d m z w = refl
+under_end false true p e c l d m z w = refl
+under_end false false true e c l d m z w = rw (w, sym z, m) refl
+under_end false false false e c l d m z w = absurd (true≢false (sym m))
+
+over_end : (a b p e c l : Bool) → (a || (p && e)) ≡ true → l ≡ true → ((a || b) || (c || (l && e))) ≡ true
+over_end true b p e c l m w = refl
+over_end false true p e c l m w = refl
+over_end false false p e true l m w = refl
+over_end false false true e false l m w = rw (w, m) refl
+over_end false false false e false l m w = absurd (true≢false (sym m))
+
 values-under : (k : Kind) (low high : ℤ) (n : Bool) (s t : Span) (v : Cell) → fits_kind k low high n s ≡ true → maybe_cut k low high false (under low s t) v ≡ true → (has_cut k low high false s v || has_cut k low high false t v) ≡ true
 values-under k low high n Full Full v f h = absurd (true≢false (sym h))
 values-under Numbers low high n Full (Nums c d) v f h =
@@ -194,7 +207,8 @@ values-under Numbers low high n (Nums a b) (Nums c d) v f h =
     let w : int_le a (int_min b (c -ℤ pos 1)) ≡ true → int_lt low c ≡ true = λ l. grind (arith, ints) in
     rw (x, y) (joined (int_le a (int_min b (c -ℤ pos 1))) (int_lt low a) (cell_eq (Num a) v) (int_lt (int_min b (c -ℤ pos 1)) high) (cell_eq (Num (int_min b (c -ℤ pos 1) +ℤ pos 1)) v)
     (int_lt low a && cell_eq (Num a) v) (int_lt b high && cell_eq (Num (b +ℤ pos 1)) v) (int_lt low c && cell_eq (Num c) v) (int_lt d high && cell_eq (Num (d +ℤ pos 1)) v)
-    e (λ i k. grind arith) (λ i k. let n2 = m k in let w2 = w i in grind arith))
+    e (λ i k. grind arith) (λ i k. under_end (int_lt low a && cell_eq (Num a) v) (int_lt b high && cell_eq (Num (b +ℤ pos 1)) v) (int_lt (c -ℤ pos 1) high) (cell_eq (Num ((c -ℤ pos 1) +ℤ pos 1)) v)
+        (cell_eq (Num c) v) (int_lt low c) (int_lt d high && cell_eq (Num (d +ℤ pos 1)) v) (m k) z (w i)))
 values-under Texts low high n (Nums a b) (Nums c d) v f h = absurd (no_nums low high a (int_min b (c -ℤ pos 1)) v h)
 values-under k low high n (Nums a b) (Strs c d) v f h = absurd (true≢false (sym h))
 values-under k low high n Full Null v f h = absurd (true≢false (sym h))
@@ -241,7 +255,9 @@ values-over Numbers low high n (Nums a b) (Nums c d) v f h =
     let w : int_le (int_max a (d +ℤ pos 1)) b ≡ true → int_lt d high ≡ true = λ l. grind (arith, ints) in
     rw (x, y) (joined (int_le (int_max a (d +ℤ pos 1)) b) (int_lt low (int_max a (d +ℤ pos 1))) (cell_eq (Num (int_max a (d +ℤ pos 1))) v) (int_lt b high) (cell_eq (Num (b +ℤ pos 1)) v)
     (int_lt low a && cell_eq (Num a) v) (int_lt b high && cell_eq (Num (b +ℤ pos 1)) v) (int_lt low c && cell_eq (Num c) v) (int_lt d high && cell_eq (Num (d +ℤ pos 1)) v)
-    e (λ i k. let n2 = m k in let w2 = w i in grind arith) (λ i k. grind arith))
+    e (λ i k. over_end (int_lt low a && cell_eq (Num a) v) (int_lt b high && cell_eq (Num (b +ℤ pos 1)) v) (int_lt low (d +ℤ pos 1)) (cell_eq (Num (d +ℤ pos 1)) v)
+        (int_lt low c && cell_eq (Num c) v) (int_lt d high) (m k) (w i))
+    (λ i k. grind arith))
 values-over Texts low high n (Nums a b) (Nums c d) v f h = absurd (no_nums low high (int_max a (d +ℤ pos 1)) b v h)
 values-over k low high n (Nums a b) (Strs c d) v f h = absurd (true≢false (sym h))
 values-over k low high n Full Null v f h = absurd (true≢false (sym h))

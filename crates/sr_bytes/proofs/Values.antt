@@ -8,12 +8,12 @@ use Rattle.std.proofs.lemmas.Bool.{leb-true, and_from}
 use Rattle.std.specs.Cmp.{first_so, second_so}
 use Rattle.sr_cell.specs.declared.cell.Cell.{Cell}
 use Rattle.sr_cell.specs.declared.cell.Cell.TheVariants.{Num, Str, Null as NullCell}
-use Rattle.sr_cell.specs.Cells.{text_le}
+use Rattle.sr_cell.specs.Cells.{text_le, is_null}
 use Rattle.sr_cell.specs.Columns.{are_bytes}
 use Rattle.sr_box.specs.declared.span.Span.{Span}
 use Rattle.sr_box.specs.declared.span.Span.TheVariants.{Full, Nums, Strs, Null}
-use Rattle.sr_bytes.specs.Reading.{Got, Reader, ◌>>=◌, give, passing, many, a_byte, a_number, a_signed, a_text, any_bytes, a_cell_of, a_cell, a_row, some_rows, a_span_of, a_span, a_rect, some_rects}
-use Rattle.sr_bytes.specs.Spelling.{number_bytes, count_bytes, short_count_bytes, text_bytes, cell_bytes, row_bytes, rows_bytes, span_bytes, rect_bytes, rects_bytes, is_from_to, is_number, is_bound, has_cell_bytes, has_row_bytes, have_rows_bytes, has_span_bytes, has_rect_bytes, have_rects_bytes}
+use Rattle.sr_bytes.specs.Reading.{Got, Reader, ◌>>=◌, give, passing, many, a_byte, a_number, a_signed, a_text, any_bytes, a_key_of, a_key, a_cell_of, a_cell, a_row, some_rows, a_span_of, a_span, a_rect, some_rects}
+use Rattle.sr_bytes.specs.Spelling.{number_bytes, count_bytes, short_count_bytes, text_bytes, cell_bytes, row_bytes, rows_bytes, span_bytes, rect_bytes, rects_bytes, is_from_to, is_number, is_bound, has_cell_bytes, has_key_bytes, has_row_bytes, have_rows_bytes, has_span_bytes, has_rect_bytes, have_rects_bytes}
 use Rattle.sr_bytes.specs.Laws.{IsExact}
 use Rattle.sr_bytes.proofs.Steps.{step_of, got_value, got_rest, passed, rest_bytes, front_bytes, behind, many_again, many_spelled}
 use Rattle.sr_bytes.proofs.Numbers.{byte_in_spelled, short_count_again, short_count_spelled, count_again, count_spelled, signed_again, signed_spelled, from_zero, to_zero, text_again, text_spelled}
@@ -54,26 +54,55 @@ counted_exact low high r bytes_of has exact =
 
 -- ---- cells and rows
 
+key_again : (c : Cell) (rest : List ℕ) → IsTrue (has_key_bytes c) → a_key (cell_bytes c ++ rest) ≡ Got c rest
+key_again (Num n) rest h = rw (signed_again n rest h) refl
+key_again (Str text) rest h =
+    rw (text_again 0 120 is_utf8 text rest (from_zero 120 (length text) (first_so (nat_le (length text) 120) (is_utf8 text) h)) (second_so (nat_le (length text) 120) (is_utf8 text) h)) refl
+key_again NullCell rest h = absurd cc
+
+key_behind : (kind : ℕ) (bytes : List ℕ) (c : Cell) (rest : List ℕ) → IsTrue (is_from_to 0 1 kind) → IsTrue (are_bytes bytes) → a_key_of kind bytes ≡ Got c rest
+    → (kind ∷ bytes ≡ cell_bytes c ++ rest) × IsTrue (has_key_bytes c)
+key_behind zero bytes c rest k fits e =
+    let s = step_of (a_signed bytes) (λ n. give (Num n)) c rest e in
+    let t = signed_spelled bytes s.value s.left fits s.first in
+    let is_rest = got_rest (Num s.value) c s.left rest s.second in
+    subst (λ v. (0 ∷ bytes ≡ cell_bytes v ++ rest) × IsTrue (has_key_bytes v)) (got_value (Num s.value) c s.left rest s.second)
+    (ap (λ (u : List ℕ). 0 ∷ u) (t.0 ∙ ap (λ (r : List ℕ). number_bytes s.value ++ r) is_rest), t.1)
+key_behind (suc zero) bytes c rest k fits e =
+    let s = step_of (a_text 0 120 is_utf8 bytes) (λ text. give (Str text)) c rest e in
+    let t = text_spelled 0 120 is_utf8 bytes s.value s.left s.first in
+    let is_rest = got_rest (Str s.value) c s.left rest s.second in
+    subst (λ v. (1 ∷ bytes ≡ cell_bytes v ++ rest) × IsTrue (has_key_bytes v)) (got_value (Str s.value) c s.left rest s.second)
+    (ap (λ (u : List ℕ). 1 ∷ u) (t.parts ∙ ap (λ (r : List ℕ). text_bytes s.value ++ r) is_rest), and_from (nat_le (length s.value) 120) (is_utf8 s.value) (to_zero 120 (length s.value) t.count) t.passes)
+key_behind (suc (suc kind)) bytes c rest k fits e = absurd (omega (arith, leb-true _ _ (to_zero 1 (suc (suc kind)) k)))
+
+key_spelled : (bytes : List ℕ) (c : Cell) (rest : List ℕ) → IsTrue (are_bytes bytes) → a_key bytes ≡ Got c rest → (bytes ≡ cell_bytes c ++ rest) × IsTrue (has_key_bytes c)
+key_spelled bytes c rest fits e =
+    let s = step_of (passing (is_from_to 0 1) a_byte bytes) a_key_of c rest e in
+    let b = byte_in_spelled (is_from_to 0 1) bytes s.value s.left s.first in
+    let t = key_behind s.value s.left c rest b.1 (rest_bytes bytes (s.value ∷ []) s.left b.0 fits) s.second in
+    (b.0 ∙ t.0, t.1)
+
+pub key_exact : IsExact a_key cell_bytes has_key_bytes
+key_exact = record { again = key_again; spelled = key_spelled }
+
 cell_again : (c : Cell) (rest : List ℕ) → IsTrue (has_cell_bytes c) → a_cell (cell_bytes c ++ rest) ≡ Got c rest
 cell_again (Num n) rest h = rw (signed_again n rest h) refl
 cell_again (Str text) rest h =
     rw (text_again 0 120 is_utf8 text rest (from_zero 120 (length text) (first_so (nat_le (length text) 120) (is_utf8 text) h)) (second_so (nat_le (length text) 120) (is_utf8 text) h)) refl
 cell_again NullCell rest h = refl
 
+-- a key is a cell
+key_is_cell : (kind : ℕ) (bytes : List ℕ) (c : Cell) (rest : List ℕ) → IsTrue (is_from_to 0 1 kind) → IsTrue (are_bytes bytes) → a_key_of kind bytes ≡ Got c rest
+    → (kind ∷ bytes ≡ cell_bytes c ++ rest) × IsTrue (has_cell_bytes c)
+key_is_cell kind bytes c rest k fits e =
+    let t = key_behind kind bytes c rest k fits e in
+    (t.0, second_so (not (is_null c)) (has_cell_bytes c) t.1)
+
 cell_behind : (kind : ℕ) (bytes : List ℕ) (c : Cell) (rest : List ℕ) → IsTrue (is_from_to 0 2 kind) → IsTrue (are_bytes bytes) → a_cell_of kind bytes ≡ Got c rest
     → (kind ∷ bytes ≡ cell_bytes c ++ rest) × IsTrue (has_cell_bytes c)
-cell_behind zero bytes c rest k fits e =
-    let s = step_of (a_signed bytes) (λ n. give (Num n)) c rest e in
-    let t = signed_spelled bytes s.value s.left fits s.first in
-    let is_rest = got_rest (Num s.value) c s.left rest s.second in
-    subst (λ v. (0 ∷ bytes ≡ cell_bytes v ++ rest) × IsTrue (has_cell_bytes v)) (got_value (Num s.value) c s.left rest s.second)
-    (ap (λ (u : List ℕ). 0 ∷ u) (t.0 ∙ ap (λ (r : List ℕ). number_bytes s.value ++ r) is_rest), t.1)
-cell_behind (suc zero) bytes c rest k fits e =
-    let s = step_of (a_text 0 120 is_utf8 bytes) (λ text. give (Str text)) c rest e in
-    let t = text_spelled 0 120 is_utf8 bytes s.value s.left s.first in
-    let is_rest = got_rest (Str s.value) c s.left rest s.second in
-    subst (λ v. (1 ∷ bytes ≡ cell_bytes v ++ rest) × IsTrue (has_cell_bytes v)) (got_value (Str s.value) c s.left rest s.second)
-    (ap (λ (u : List ℕ). 1 ∷ u) (t.parts ∙ ap (λ (r : List ℕ). text_bytes s.value ++ r) is_rest), and_from (nat_le (length s.value) 120) (is_utf8 s.value) (to_zero 120 (length s.value) t.count) t.passes)
+cell_behind zero bytes c rest k fits e = key_is_cell 0 bytes c rest refl fits e
+cell_behind (suc zero) bytes c rest k fits e = key_is_cell 1 bytes c rest refl fits e
 cell_behind (suc (suc zero)) bytes c rest k fits e =
     subst (λ v. (2 ∷ bytes ≡ cell_bytes v ++ rest) × IsTrue (has_cell_bytes v)) (got_value NullCell c bytes rest e)
     (ap (λ (t : List ℕ). 2 ∷ t) (got_rest NullCell c bytes rest e), refl)

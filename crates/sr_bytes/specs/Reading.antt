@@ -70,13 +70,23 @@ a_text low high test = do
   n ← passing (is_from_to low high) a_byte
   bytes_that test n
 
-abbrev pub a_cell_of : ℕ → Reader Cell
-a_cell_of zero = do
+abbrev pub a_key_of : ℕ → Reader Cell
+a_key_of zero = do
   n ← a_signed
   give (Num n)
-a_cell_of (suc zero) = do
+a_key_of (suc kind) = do
   text ← a_text 0 120 is_utf8
   give (Str text)
+
+-- a key is never Null
+abbrev pub a_key : Reader Cell
+a_key = do
+  kind ← passing (is_from_to 0 1) a_byte
+  a_key_of kind
+
+abbrev pub a_cell_of : ℕ → Reader Cell
+a_cell_of zero = a_key_of 0
+a_cell_of (suc zero) = a_key_of 1
 a_cell_of (suc (suc kind)) = give NullCell
 
 abbrev pub a_cell : Reader Cell

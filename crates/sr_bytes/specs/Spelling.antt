@@ -5,7 +5,7 @@ use Rattle.std.specs.List.{flat_map, list_all}
 use Rattle.std.specs.Str.{is_utf8}
 use Rattle.sr_cell.specs.declared.cell.Cell.{Cell}
 use Rattle.sr_cell.specs.declared.cell.Cell.TheVariants.{Num, Str, Null as NullCell}
-use Rattle.sr_cell.specs.Cells.{Row, text_le}
+use Rattle.sr_cell.specs.Cells.{Row, text_le, is_null}
 use Rattle.sr_cell.specs.Columns.{are_bytes}
 use Rattle.sr_box.specs.declared.span.Span.{Span}
 use Rattle.sr_box.specs.declared.span.Span.TheVariants.{Full, Nums, Strs, Null}
@@ -70,6 +70,10 @@ abbrev pub has_cell_bytes : Cell → Bool
 has_cell_bytes (Num n) = is_number n
 has_cell_bytes (Str text) = nat_le (length text) 120 && is_utf8 text
 has_cell_bytes NullCell = true
+
+-- a key is never Null
+abbrev pub has_key_bytes : Cell → Bool
+has_key_bytes key = not (is_null key) && has_cell_bytes key
 
 abbrev pub has_row_bytes : Row → Bool
 has_row_bytes row = is_from_to 1 12 (length row) && list_all has_cell_bytes row

@@ -3,7 +3,7 @@ use Rattle.std.specs.Prelude.{◌≡◌, ℕ, int_le, Bool, true, ◌&&◌, not,
 use Rattle.std.specs.List.{list_all}
 use Rattle.sr_cell.specs.declared.cell.Cell.{Cell}
 use Rattle.sr_cell.specs.declared.cell.Cell.TheVariants.{Num, Str, Null as NullCell}
-use Rattle.sr_cell.specs.Cells.{Row, text_le}
+use Rattle.sr_cell.specs.Cells.{Row, text_le, is_null}
 use Rattle.sr_box.specs.declared.span.Span.{Span}
 use Rattle.sr_box.specs.declared.span.Span.TheVariants.{Full, Nums, Strs, Null}
 use Rattle.sr_box.specs.Points.{Rect}
@@ -13,6 +13,10 @@ abbrev pub may_write_cell : Cell → Bool
 may_write_cell (Num n) = true
 may_write_cell (Str text) = nat_le (length text) 120
 may_write_cell NullCell = true
+
+-- a key is never Null
+abbrev pub may_write_key : Cell → Bool
+may_write_key key = not (is_null key) && may_write_cell key
 
 abbrev pub may_write_row : Row → Bool
 may_write_row row = is_from_to 1 12 (length row) && list_all may_write_cell row

@@ -1,7 +1,7 @@
 //! Cells, rows, spans and rects in the bytes that spell them.
 ghost use Rattle.std.specs.Prelude.{◌≡◌, ℕ, List, [], ◌++◌, option_to_list, IfNone};
 ghost use Rattle.std.specs.Option.{option_map};
-ghost use Rattle.sr_bytes.specs.Reading.{a_cell, a_row, some_rows, a_span, a_span_of, a_rect, some_rects, many, items};
+ghost use Rattle.sr_bytes.specs.Reading.{a_cell, a_key, a_row, some_rows, a_span, a_span_of, a_rect, some_rects, many, items};
 ghost use Rattle.sr_bytes.specs.Views.{Reads, cell_of, span_of};
 
 use crate::cursor::{BadField, Cursor};
@@ -172,6 +172,16 @@ impl<'a> Cursor<'a> {
             0 => Ok(CellView::Num(self.i64()?)),
             1 => Ok(CellView::Str(self.text(CELL_BYTES)?)),
             _ => Ok(CellView::Null),
+        }
+    }
+
+    /// A key, which is never Null.
+    pub fn key(&mut self) -> Result<CellView<'a>, BadField>
+        ensures { Reads cell_of result self.new (a_key self.old) }
+    {
+        match self.byte_in(0, 1)? {
+            0 => Ok(CellView::Num(self.i64()?)),
+            _ => Ok(CellView::Str(self.text(CELL_BYTES)?)),
         }
     }
 

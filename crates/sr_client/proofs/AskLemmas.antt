@@ -14,7 +14,8 @@ use Rattle.sr_cell.specs.Columns.{table_at, is_point}
 use Rattle.sr_box.specs.Points.{Rect, Points, in_any, rect_fits, constrains, constrained, constrains_only, AreSame, HasPoint, HasNoPoint, IsEssential}
 use Rattle.sr_box.specs.declared.span.Span.TheVariants.{Full, Nums, Strs}
 use Rattle.sr_union.specs.Free.{span_at}
-use Rattle.sr_union.specs.Grid.{have_first, AreCutFrom}
+use Rattle.sr_box.specs.Corners.{have_first}
+use Rattle.sr_union.specs.Grid.{AreCutFrom}
 use Rattle.sr_union.proofs.Free.{constrained-is}
 use Rattle.sr_union.proofs.Low.{has_point}
 use Rattle.sr_trim.specs.Left.{left_over, is_constrained}

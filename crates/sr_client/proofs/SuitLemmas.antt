@@ -16,8 +16,7 @@ use Rattle.sr_cell.specs.Cells.{Row, cell_at, cell_eq}
 use Rattle.sr_cell.specs.Columns.{table_at, is_point, in_column, takes_cell, fits_columns, is_value, are_values}
 use Rattle.sr_cell.proofs.Order.{cell_eq-sound}
 use Rattle.sr_cell.proofs.Columns.{takes-in, fits-point}
-use Rattle.sr_box.specs.Corners.{first_value}
-use Rattle.sr_union.specs.Grid.{have_first}
+use Rattle.sr_box.specs.Corners.{first_value, have_first}
 use Rattle.sr_message.specs.declared.message.AskPart.{AskPart}
 use Rattle.sr_message.specs.declared.message.Message.{Message}
 use Rattle.sr_message.specs.declared.message.Message.TheVariants.{Hello, Resume, Ask, Write, Welcome, Notice, Rows, Reply, Written, Refused, Lapse}

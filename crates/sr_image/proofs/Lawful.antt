@@ -25,11 +25,10 @@ use Rattle.sr_cell.specs.Attrs.{has_column, project_from}
 use Rattle.sr_cell.specs.Cells.{Row}
 use Rattle.sr_cell.specs.Columns.{are_bytes, in_kind, is_point, takes_kind, table_at}
 use Rattle.sr_model.specs.SortedRows.{ascend, key_lt}
-use Rattle.sr_box.specs.Corners.{first_value}
+use Rattle.sr_box.specs.Corners.{first_value, have_first}
 use Rattle.sr_box.specs.Cut.{rect_meet}
 use Rattle.sr_box.specs.Points.{Rect, in_rect, in_any, times, rect_fits, constrains_only}
 use Rattle.sr_box.proofs.Meets.{rect_meet-apart}
-use Rattle.sr_union.specs.Grid.{have_first}
 use Rattle.sr_query.specs.Bound.{is_table}
 use Rattle.sr_region.specs.Regions.{rank, is_in, IsPart, IsRowIn, IsArea, IsRegion}
 use Rattle.sr_bytes.specs.Spelling.{is_from_to, has_cell_bytes, has_row_bytes, has_rect_bytes}

@@ -25,7 +25,7 @@ use Rattle.sr_model.specs.SortedRows.{ascend, key_lt}
 use Rattle.sr_box.specs.Cut.{rect_meet, in_some, some_fits}
 use Rattle.sr_box.specs.Points.{Rect, in_rect, times, rect_fits, constrains_only}
 use Rattle.sr_box.proofs.Meets.{rect_meet-is, rect_meet-fits}
-use Rattle.sr_union.specs.Grid.{have_first}
+use Rattle.sr_box.specs.Corners.{have_first}
 use Rattle.sr_union.proofs.Low.{low_point, low-point}
 use Rattle.sr_union.proofs.Times.{times-append}
 use Rattle.sr_query.specs.Bound.{is_table}

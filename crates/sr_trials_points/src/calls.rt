@@ -1,6 +1,7 @@
 //! Calls that no script makes, each once, at values worked out by hand.
 ghost use Rattle.std.specs.Prelude.{◌≡◌, pos, true, IfOk};
-ghost use Rattle.sr_union.specs.Grid.{all_inner, have_first};
+ghost use Rattle.sr_box.specs.Corners.{have_first};
+ghost use Rattle.sr_union.specs.Grid.{all_inner};
 
 use crate::common::{column, other_text, rects_of, table_of};
 use sr_box::span::Span;

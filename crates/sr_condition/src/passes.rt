@@ -2,7 +2,7 @@
 ghost use Rattle.std.specs.Prelude.{◌≡◌, true};
 ghost use Rattle.std.specs.List.{list_any};
 ghost use Rattle.sr_cell.specs.Cells.{cell_at, cell_eq};
-ghost use Rattle.sr_model.specs.Conditions.{begins, begins_cell, is_so, on_value, passes, truth, is_true};
+ghost use Rattle.sr_model.specs.Conditions.{And, Or, Not, begins, begins_cell, is_so, on_value, passes, truth, is_true};
 ghost use Rattle.sr_model.specs.Sides.{all_say, some_say};
 ghost use Rattle.sr_model.specs.Statements.{meets};
 ghost use Rattle.sr_query.specs.Binding.{cond_of, compared};
@@ -40,22 +40,39 @@ fn says(plain: bool, condition: &Condition, row: &Row) -> bool
 {
     match condition {
         Condition::Test(_, output, test) => tests(plain, test, row, output.column),
-        Condition::And(all) => {
-            if plain {
-                all_say(plain, all, row)
-            } else {
-                some_say(plain, all, row)
-            }
-        }
-        Condition::Or(all) => {
-            if plain {
-                some_say(plain, all, row)
-            } else {
-                all_say(plain, all, row)
-            }
-        }
-        Condition::Not(one) => says(!plain, one, row),
+        Condition::And(all) => conjunction(plain, all, row),
+        Condition::Or(all) => disjunction(plain, all, row),
+        Condition::Not(one) => negation(plain, one, row),
     }
+}
+
+#[cycle(condition)]
+fn conjunction(plain: bool, all: &[Condition], row: &Row) -> bool
+    ensures { result ≡ is_so plain (truth (cell_at row.now) (And (members all.now))) }
+{
+    if plain {
+        all_say(plain, all, row)
+    } else {
+        some_say(plain, all, row)
+    }
+}
+
+#[cycle(condition)]
+fn disjunction(plain: bool, all: &[Condition], row: &Row) -> bool
+    ensures { result ≡ is_so plain (truth (cell_at row.now) (Or (members all.now))) }
+{
+    if plain {
+        some_say(plain, all, row)
+    } else {
+        all_say(plain, all, row)
+    }
+}
+
+#[cycle(condition)]
+fn negation(plain: bool, one: &Condition, row: &Row) -> bool
+    ensures { result ≡ is_so plain (truth (cell_at row.now) (Not (cond_of (meant one.now)))) }
+{
+    says(!plain, one, row)
 }
 
 #[cycle(condition)]

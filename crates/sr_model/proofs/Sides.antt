@@ -8,28 +8,28 @@ use Rattle.sr_model.specs.Sides.{all_say, some_say, pushed, all_pushed, SidesByM
 
 -- ---- the sides
 
-both-true : (a b : Truth) → is_so true (both a b) ≡ (is_so true a && is_so true b)
+pub both-true : (a b : Truth) → is_so true (both a b) ≡ (is_so true a && is_so true b)
 both-true (Known true) b = refl
 both-true (Known false) b = refl
 both-true Unknown (Known true) = refl
 both-true Unknown (Known false) = refl
 both-true Unknown Unknown = refl
 
-both-false : (a b : Truth) → is_so false (both a b) ≡ (is_so false a || is_so false b)
+pub both-false : (a b : Truth) → is_so false (both a b) ≡ (is_so false a || is_so false b)
 both-false (Known true) b = refl
 both-false (Known false) b = refl
 both-false Unknown (Known true) = refl
 both-false Unknown (Known false) = refl
 both-false Unknown Unknown = refl
 
-either-true : (a b : Truth) → is_so true (either a b) ≡ (is_so true a || is_so true b)
+pub either-true : (a b : Truth) → is_so true (either a b) ≡ (is_so true a || is_so true b)
 either-true (Known true) b = refl
 either-true (Known false) b = refl
 either-true Unknown (Known true) = refl
 either-true Unknown (Known false) = refl
 either-true Unknown Unknown = refl
 
-either-false : (a b : Truth) → is_so false (either a b) ≡ (is_so false a && is_so false b)
+pub either-false : (a b : Truth) → is_so false (either a b) ≡ (is_so false a && is_so false b)
 either-false (Known true) b = refl
 either-false (Known false) b = refl
 either-false Unknown (Known true) = refl

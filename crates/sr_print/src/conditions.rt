@@ -126,6 +126,15 @@ fn atom(printer: &mut Printer, what: &Atom) -> Result<(), NoMemory>
             printer.key("NOT")?;
             like(printer, text)
         }
+        Atom::IsNull => {
+            printer.key("IS")?;
+            printer.key("NULL")
+        }
+        Atom::NotNull => {
+            printer.key("IS")?;
+            printer.key("NOT")?;
+            printer.key("NULL")
+        }
     }
 }
 

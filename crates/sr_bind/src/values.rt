@@ -64,6 +64,7 @@ fn is_of(kind: Kind, cell: &Cell) -> bool
     ensures { result ≡ is_of kind cell.now }
 {
     match (kind, cell) {
+        (_, Cell::Null) => true,
         (Kind::Num, Cell::Num(_)) => true,
         (Kind::Str, Cell::Str(_)) => true,
         _ => false,
@@ -76,6 +77,7 @@ fn is_inside(cell: &Cell) -> bool
     match cell {
         Cell::Num(number) => LOW <= *number && *number <= HIGH,
         Cell::Str(text) => text.as_str().len() <= LONGEST,
+        Cell::Null => false,
     }
 }
 
@@ -143,7 +145,7 @@ fn prefix(alloc: Global, kind: Kind, literal: &Literal) -> Result<Test, No<Fault
 {
     match value_of(alloc, kind, literal) {
         Ok(Cell::Str(start)) => Ok(Test::Prefix(start)),
-        Ok(Cell::Num(_)) => Ok(Test::Prefix(Text::of(alloc, "")?)),
+        Ok(Cell::Num(_)) | Ok(Cell::Null) => Ok(Test::Prefix(Text::of(alloc, "")?)),
         Err(no) => Err(no),
     }
 }

@@ -1,7 +1,7 @@
 -- The printed form of a statement: its tokens, at the places that the tree gives.
 use Rattle.std.specs.Prelude.{ℕ, ℤ, pos, negsuc, int_le, ◌+◌, ◌==◌, ◌&&◌, Bool, true, false, List, [], ◌∷◌, ◌++◌, flat_map, decimal, Option, Some, None, codes, if◌then◌else◌}
 use Rattle.sr_cell.specs.declared.cell.Cell.{Cell}
-use Rattle.sr_cell.specs.declared.cell.Cell.TheVariants.{Num, Str}
+use Rattle.sr_cell.specs.declared.cell.Cell.TheVariants.{Num, Str, Null}
 use Rattle.sr_cell.specs.declared.table.Kind.{Kind}
 use Rattle.sr_cell.specs.declared.table.Kind.TheVariants as kinds
 use Rattle.sr_cell.specs.declared.table.Column.{Column}
@@ -47,6 +47,7 @@ number (negsuc n) place = token Mark (codes "-") place ∷ token Number (decimal
 abbrev pub cell : Cell → ℕ → List Tok
 cell (Num n) place = number n place
 cell (Str text) place = token Quoted text place ∷ []
+cell Null place = token Key (codes "NULL") place ∷ []
 
 abbrev pub literal : Literal → List Tok
 literal l = cell l.cell l.place
@@ -54,6 +55,7 @@ literal l = cell l.cell l.place
 abbrev pub prefix_cell : Cell → ℕ → List Tok
 prefix_cell (Num n) place = number n place
 prefix_cell (Str text) place = token Quoted (text ++ codes "%") place ∷ []
+prefix_cell Null place = token Key (codes "NULL") place ∷ []
 
 -- the % of a prefix stands at its end
 abbrev pub prefix : Literal → List Tok

@@ -106,11 +106,11 @@ has_bad_domain d = list_any (is_bad_rule d.name d.kind) d.rules
 
 -- the domain of a column: that of its CHECK, or the default; texts have none
 abbrev pub checked : List ℕ → Kind → List ColumnRule → Column
-checked name kinds.Num [] = record { name = name; kind = kinds.Num; lo = low_default; hi = high_default }
-checked name kinds.Str [] = record { name = name; kind = kinds.Str; lo = pos 0; hi = pos 0 }
+checked name kinds.Num [] = record { name = name; kind = kinds.Num; lo = low_default; hi = high_default; nullable = false }
+checked name kinds.Str [] = record { name = name; kind = kinds.Str; lo = pos 0; hi = pos 0; nullable = false }
 checked name kind (rules.PrimaryKey ∷ others) = checked name kind others
 checked name kind (rules.NotNull ∷ others) = checked name kind others
-checked name kind (rules.Check check ∷ others) = record { name = name; kind = kind; lo = check.low; hi = check.high }
+checked name kind (rules.Check check ∷ others) = record { name = name; kind = kind; lo = check.low; hi = check.high; nullable = false }
 
 abbrev pub column_of : Definition → Column
 column_of d = checked d.name d.kind d.rules

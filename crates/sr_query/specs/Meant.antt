@@ -18,6 +18,7 @@ test_meant (tests.Compared op v) = compared op v
 test_meant (tests.Between a b) = model.Between a b
 test_meant (tests.OneOf vs) = model.OneOf vs
 test_meant (tests.Prefix p) = model.Prefix p
+test_meant tests.IsNull = model.IsNull
 
 -- whether the atom says its test, and not the contrary
 abbrev pub holds : Atom → Bool

@@ -154,6 +154,7 @@ fn column(alloc: Global, name: &str, kind: Kind) -> Result<Column, NoMemory>
         kind,
         lo: 0,
         hi: 0,
+        nullable: false,
     })
 }
 

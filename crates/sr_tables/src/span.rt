@@ -4,7 +4,8 @@ ghost use Rattle.std.specs.Option.{option_copied};
 ghost use Rattle.sr_cell.specs.declared.cell.Cell.{Cell as TheCell};
 ghost use Rattle.sr_cell.specs.Cells.{Row as TheRow, cell_at};
 ghost use Rattle.sr_cell.specs.Columns.{fits_columns};
-ghost use Rattle.sr_model.specs.Conditions.{passes, is_true, all_true};
+ghost use Rattle.sr_model.specs.Conditions.{passes, is_true};
+ghost use Rattle.sr_model.specs.Sides.{all_true};
 ghost use Rattle.sr_model.specs.Statements.{meets};
 ghost use Rattle.sr_query.specs.Binding.{cond_of, compared};
 ghost use Rattle.sr_query.specs.Meant.{meant, members, test_meant};
@@ -22,7 +23,7 @@ fn of_kind(cell: &Cell, kind: Kind) -> Option<&Cell>
     ensures { option_copied result ≡ (if is_of kind cell.now then Some cell.now else None) }
 {
     match (kind, cell) {
-        (Kind::Num, Cell::Num(_)) | (Kind::Str, Cell::Str(_)) => Some(cell),
+        (Kind::Num, Cell::Num(_)) | (Kind::Str, Cell::Str(_)) | (_, Cell::Null) => Some(cell),
         _ => None,
     }
 }

@@ -55,6 +55,7 @@ pub fn column(alloc: Global, name: &str, hi: i64) -> Result<Column, NoMemory>
         kind: Kind::Num,
         lo: 0,
         hi,
+        nullable: false,
     })
 }
 

@@ -96,6 +96,7 @@ fn numbers(alloc: Global, name: &str) -> Result<Column, NoMemory>
         kind: Kind::Num,
         lo: -1099511627776,
         hi: 1099511627775,
+        nullable: false,
     })
 }
 

@@ -205,6 +205,8 @@ test_is_short kind (atoms.Prefix l) t e = one_value kind l (λ v. (true, Prefix 
 test_is_short kind (atoms.NotBetween low high) t e = two_values kind low high false t e
 test_is_short kind (atoms.NotOneOf all) t e = all_values kind all false t e
 test_is_short kind (atoms.NotPrefix l) t e = one_value kind l (λ v. (false, Prefix (text_of v))) t text_short e
+test_is_short kind atoms.IsNull t e = is_test (true, IsNull) t e refl
+test_is_short kind atoms.NotNull t e = is_test (false, IsNull) t e refl
 
 -- ---- bound conditions
 

@@ -1,7 +1,8 @@
 -- Ends of the values that a comparison is true of.
 use Rattle.std.proofs.Common.{◌≡◌, ℕ, zero, suc, ◌+◌, Bool, true, false, not, ◌||◌, List, [], ◌∷◌, length, take, get_or, refl, sym, ap, subst, ◌∙◌, arith}
-use Rattle.std.specs.Prelude.{ℤ, ◌<◌, Option, Some, None, slice_index_or, slice_get, if◌then◌else◌}
+use Rattle.std.specs.Prelude.{ℤ, ◌<◌, ◌&&◌, Option, Some, None, slice_index_or, slice_get, if◌then◌else◌}
 use Rattle.std.specs.Cmp.{first_so, second_so}
+use Rattle.std.proofs.lemmas.Bool.{and_parts}
 use Rattle.std.proofs.lemmas.Int.{ints}
 use Rattle.std.proofs.lemmas.List.Folds.{list_any_more}
 use Rattle.sr_cell.specs.declared.cell.Cell.{Cell}
@@ -9,7 +10,7 @@ use Rattle.sr_cell.specs.declared.cell.Cell.TheVariants.{Num, Str, Null as NullC
 use Rattle.sr_cell.specs.declared.table.Kind.{Kind}
 use Rattle.sr_cell.specs.declared.table.Kind.TheVariants.{Num as Numbers, Str as Texts}
 use Rattle.sr_cell.specs.declared.table.Column.{Column}
-use Rattle.sr_cell.specs.Cells.{Row, cell_at, cell_le, text_le}
+use Rattle.sr_cell.specs.Cells.{Row, cell_at, cell_le, cell_eq, text_le}
 use Rattle.sr_cell.proofs.Order.{text_le-total as text_above}
 use Rattle.sr_cell.specs.Columns.{takes_kind, fits_columns}
 use Rattle.sr_box.specs.declared.span.Span.{Span}
@@ -25,6 +26,20 @@ pub so-of : (v : Cell) (b : Bool) → is_so true (on_value v b) ≡ true → b �
 so-of (Num n) b h = h
 so-of (Str s) b h = h
 so-of NullCell b h = absurd (cc)
+
+-- what a test that is true says of the ends
+
+pub equal-from : (v w : Cell) → is_so true (on_value v (cell_eq v w)) ≡ true → is_from (Some w) v ≡ true
+equal-from v w h = (and_parts (cell_le v w) (cell_le w v) (so-of v (cell_eq v w) h)).1
+
+pub equal-up_to : (v w : Cell) → is_so true (on_value v (cell_eq v w)) ≡ true → is_up_to (Some w) v ≡ true
+equal-up_to v w h = (and_parts (cell_le v w) (cell_le w v) (so-of v (cell_eq v w) h)).0
+
+pub between-from : (v a b : Cell) → is_so true (on_value v (cell_le a v && cell_le v b)) ≡ true → is_from (Some a) v ≡ true
+between-from v a b h = (and_parts (cell_le a v) (cell_le v b) (so-of v (cell_le a v && cell_le v b) h)).0
+
+pub between-up_to : (v a b : Cell) → is_so true (on_value v (cell_le a v && cell_le v b)) ≡ true → is_up_to (Some b) v ≡ true
+between-up_to v a b h = (and_parts (cell_le a v) (cell_le v b) (so-of v (cell_le a v && cell_le v b) h)).1
 
 -- cells of one kind are in order
 in_order : (kind : Kind) (v w : Cell) → is_of kind v ≡ true → is_of kind w ≡ true → (cell_le v w || cell_le w v) ≡ true

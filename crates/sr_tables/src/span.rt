@@ -54,7 +54,7 @@ fn low_tested(test: &Test, kind: Kind) -> Option<&Cell>
     match test {
         Test::Compared(op, value) => low_compared(*op, value, kind),
         Test::Between(low, _) => Some(low),
-        Test::OneOf(_) | Test::Prefix(_) => None,
+        Test::OneOf(_) | Test::Prefix(_) | Test::IsNull => None,
     }
 }
 
@@ -64,7 +64,7 @@ fn high_tested(test: &Test, kind: Kind) -> Option<&Cell>
     match test {
         Test::Compared(op, value) => high_compared(*op, value, kind),
         Test::Between(_, high) => Some(high),
-        Test::OneOf(_) | Test::Prefix(_) => None,
+        Test::OneOf(_) | Test::Prefix(_) | Test::IsNull => None,
     }
 }
 

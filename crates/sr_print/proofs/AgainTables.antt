@@ -94,26 +94,30 @@ and_false : (b : Bool) → (b && false) ≡ false
 and_false true = refl
 and_false false = refl
 
+right_false : (a b : Bool) → a ≡ true → (a && b) ≡ false → b ≡ false
+right_false true b e h = h
+right_false false b e h = absurd cc
+
 past_key : (k c : ℕ) (all : List Column) → k < c → NoNullKey k c all
 past_key k c [] l = tt
-past_key k c (d ∷ others) l = (rw (ne_eqb k c (λ e. omega arith)) refl, past_key k (c + 1) others (omega arith))
+past_key k c (d ∷ others) l = (ap (λ b. b && d.nullable) (ne_eqb k c (λ e. omega arith)), past_key k (c + 1) others (omega arith))
 
 null_key : (k c : ℕ) (ds : List Definition) → list_any has_bad_domain ds ≡ false → list_any is_nullable_key ds ≡ false → k ≡ key_of ds + c → NoNullKey k c (map column_of ds)
-null_key k c [] e n at = tt
+null_key k c [] e n here = tt
 null_key k c (d ∷ ds) e n here = go (is_key d) refl
   where
     go : (b : Bool) → is_key d ≡ b → NoNullKey k c (map column_of (d ∷ ds))
     go true is =
         let bad = or_parts (has_bad_domain d) (list_any has_bad_domain ds) e in
         let none = or_parts (is_nullable_key d) (list_any is_nullable_key ds) n in
-        let never : is_nullable d ≡ false = rw is at none.0 in
-        let same = rw is at here in
-        (rw (column_null d bad.0, never) (and_false (k == c)), past_key k (c + 1) (map column_of ds) (omega (arith, same)))
+        let never : (column_of d).nullable ≡ false = column_null d bad.0 ∙ right_false (is_key d) (is_nullable d) is none.0 in
+        let same : k ≡ 0 + c = here ∙ ap (λ t. (if t then 0 else key_of ds + 1) + c) is in
+        (ap (λ b. (k == c) && b) never ∙ and_false (k == c), past_key k (c + 1) (map column_of ds) (omega (arith, same)))
     go false is =
         let bad = or_parts (has_bad_domain d) (list_any has_bad_domain ds) e in
         let none = or_parts (is_nullable_key d) (list_any is_nullable_key ds) n in
-        let later = rw is at here in
-        (rw (ne_eqb k c (λ e. omega (arith, later))) refl, null_key k (c + 1) ds bad.1 none.1 (omega (arith, later)))
+        let later : k ≡ key_of ds + 1 + c = here ∙ ap (λ t. (if t then 0 else key_of ds + 1) + c) is in
+        (ap (λ b. b && (column_of d).nullable) (ne_eqb k c (λ e. omega (arith, later))), null_key k (c + 1) ds bad.1 none.1 (omega (arith, later)))
 
 no_null_key : (k c : ℕ) (all : List Column) → AreSound all → NoNullKey k c all → list_any is_nullable_key (redefined k c all) ≡ false
 no_null_key k c [] s n = refl

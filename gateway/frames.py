@@ -6,9 +6,11 @@ MOST_BYTES = 134217728
 WIRE = 2
 ALL_COLUMNS = list(range(12))
 
-Cell = Union[int, bytes]
-# a span is None for all values, or its two ends; a text has no upper end where the second is None
+# None is NULL
+Cell = Union[int, bytes, None]
+# a span is None for all values, or its two ends; a text has no upper end where the second is None. NULLS has NULL alone
 Span = Union[None, tuple]
+NULLS = ()
 Rect = tuple
 
 
@@ -75,23 +77,33 @@ FLAG = Field(lambda reader: number(1, 0, 1).read(reader) == 1, lambda value: b'\
 LONG, BYTE = number(8), number(1)
 SHORT_TEXT = text(number(1, 0, 120), True)
 BOUND = text(number(1, 0, 121), False)
-BOUND_OF_SOME = text(number(1, 1, 121), False)
 
 
-def read_cell(reader: Reader) -> Cell:
-    return (SHORT_TEXT if FLAG.read(reader) else SIGNED).read(reader)
+def cell(most: int) -> Field:
+    """A cell by a number up to this one: 0 and a number, 1 and a text, or 2, which is NULL."""
+    def read(reader: Reader) -> Cell:
+        kind = number(1, 0, most).read(reader)
+        return None if kind == 2 else (SHORT_TEXT if kind else SIGNED).read(reader)
+
+    def spell(value: Cell) -> bytes:
+        if value is None:
+            return b'\2'
+        return b'\0' + SIGNED.spell(value) if isinstance(value, int) else b'\1' + SHORT_TEXT.spell(value)
+    return Field(read, spell)
 
 
-CELL = Field(read_cell, lambda cell: b'\0' + SIGNED.spell(cell) if isinstance(cell, int) else b'\1' + SHORT_TEXT.spell(cell))
+CELL, KEY = cell(2), cell(1)
 ROW = many(number(1, 1, 12), CELL)
 
 
 def read_span(reader: Reader) -> Span:
-    kind = number(1, 0, 3).read(reader)
+    kind = number(1, 0, 4).read(reader)
     if kind == 0:
         return None
+    if kind == 4:
+        return NULLS
     if kind == 3:
-        return BOUND_OF_SOME.read(reader), None
+        return BOUND.read(reader), None
     end = SIGNED if kind == 1 else BOUND
     low, at, high = end.read(reader), reader.at, end.read(reader)
     if low > high or kind == 2 and low == high:
@@ -102,6 +114,8 @@ def read_span(reader: Reader) -> Span:
 def spell_span(span: Span) -> bytes:
     if span is None:
         return b'\0'
+    if span == NULLS:
+        return b'\4'
     low, high = span
     if isinstance(low, int):
         return b'\1' + SIGNED.spell(low) + SIGNED.spell(high)
@@ -142,7 +156,7 @@ HOLDING = {1: Field(lambda reader: Holding(TABLE_HELD.read(reader), ALL_COLUMNS,
            2: one(Holding, TABLE_HELD, COLUMNS, RECTS)}
 PART = one(Part, BYTE, COLUMNS, RECTS)
 MAYBE_ROW = Field(lambda reader: ROW.read(reader) if FLAG.read(reader) else None, lambda row: b'\0' if row is None else b'\1' + ROW.spell(row))
-TELL = one(Tell, BYTE, CELL, MAYBE_ROW)
+TELL = one(Tell, BYTE, KEY, MAYBE_ROW)
 
 
 # ---- messages

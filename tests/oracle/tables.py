@@ -17,6 +17,8 @@ class Column:
 
     # how many bytes of a text tell where it lies
     bytes_told = 4
+    # which value NULL counts as where a place is told by numbers
+    null_counts_as = 0
 
     def __init__(self, name, values, highest=None, is_nullable=False):
         self.name, self.highest, self.is_nullable = name, highest, is_nullable
@@ -42,8 +44,8 @@ class Column:
         return int.from_bytes(text[:self.bytes_told].ljust(self.bytes_told, b'\0'), 'big')
 
     def first(self, value):
-        """The lower end of what the value stands for, as a number; NULL counts as the first value does."""
-        value = self.own[0] if value is NULL else value
+        """The lower end of what the value stands for, as a number; that of NULL is the first value's."""
+        value = self.own[self.null_counts_as] if value is NULL else value
         return self.number_of(value) if self.is_text else value
 
     def last(self, value):

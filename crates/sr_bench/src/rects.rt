@@ -73,6 +73,7 @@ fn column(alloc: Global) -> Result<Column, NoMemory>
         kind: Kind::Num,
         lo: 0,
         hi: LAST as i64,
+        nullable: false,
     })
 }
 

@@ -101,8 +101,12 @@ pub fn holds(atom: &Atom) -> bool
     ensures { result ≡ holds atom.now }
 {
     match atom {
-        Atom::Cmp(_, _) | Atom::Between(_, _) | Atom::OneOf(_) | Atom::Prefix(_) => true,
-        Atom::NotBetween(_, _) | Atom::NotOneOf(_) | Atom::NotPrefix(_) => false,
+        Atom::Cmp(_, _)
+        | Atom::Between(_, _)
+        | Atom::OneOf(_)
+        | Atom::Prefix(_)
+        | Atom::IsNull => true,
+        Atom::NotBetween(_, _) | Atom::NotOneOf(_) | Atom::NotPrefix(_) | Atom::NotNull => false,
     }
 }
 
@@ -122,6 +126,7 @@ pub fn test_of(alloc: Global, kind: Kind, atom: &Atom) -> Result<Test, No<Fault>
             Err(no) => Err(no),
         },
         Atom::Prefix(text) | Atom::NotPrefix(text) => prefix(alloc, kind, text),
+        Atom::IsNull | Atom::NotNull => Ok(Test::IsNull),
     }
 }
 

@@ -185,3 +185,11 @@ join-step columns plain xs i k x a b any next l e one rest is =
 
 pub meet-init : (columns : List Column) (plain : Bool) (xs : List Condition) (rects : List Rect) → rects ≡ full_rect columns ∷ [] → AreRects columns plain (all_of plain (members (drop (length xs) xs))) rects
 meet-init columns plain xs rects is = subst (λ (cs : Conds). AreRects columns plain (all_of plain cs) rects) (sym (no_members xs)) (all-none columns plain rects is)
+
+any-none : (columns : List Column) (plain : Bool) → AreRects columns plain (any_of plain none) []
+any-none columns true = record { fits = refl; points = λ p h. refl; few = omega arith; ends = tt }
+any-none columns false = record { fits = refl; points = λ p h. refl; few = omega arith; ends = tt }
+
+pub join-init : (columns : List Column) (plain : Bool) (xs : List Condition) (rects : List Rect) → rects ≡ [] → AreRects columns plain (any_of plain (members (drop (length xs) xs))) rects
+join-init columns plain xs rects is = subst (AreRects columns plain (any_of plain (members (drop (length xs) xs)))) (sym is)
+    (subst (λ (cs : Conds). AreRects columns plain (any_of plain cs) []) (sym (no_members xs)) (any-none columns plain))

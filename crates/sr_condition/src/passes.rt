@@ -1,7 +1,7 @@
 //! Rows that a condition is true of.
-ghost use Rattle.std.specs.Prelude.{◌≡◌, true};
+ghost use Rattle.std.specs.Prelude.{◌≡◌, true, not, ◌&&◌};
 ghost use Rattle.std.specs.List.{list_any};
-ghost use Rattle.sr_cell.specs.Cells.{cell_at, cell_eq};
+ghost use Rattle.sr_cell.specs.Cells.{cell_at, cell_eq, is_null};
 ghost use Rattle.sr_model.specs.Conditions.{And, Or, Not, begins, begins_cell, is_so, on_value, passes, truth, is_true};
 ghost use Rattle.sr_model.specs.Sides.{all_say, some_say};
 ghost use Rattle.sr_model.specs.Statements.{meets};
@@ -113,11 +113,18 @@ fn tests(plain: bool, test: &Test, row: &Row, column: u8) -> bool
 fn says_test(plain: bool, test: &Test, cell: &Cell) -> bool
     ensures { result ≡ says_test plain (test_meant test.now) cell.now }
 {
+    let passed = is_passed(test, cell);
     if plain {
-        is_passed(test, cell)
+        passed
     } else {
-        !cell.is_null() && !is_passed(test, cell)
+        is_other(cell, passed)
     }
+}
+
+fn is_other(cell: &Cell, passed: bool) -> bool
+    ensures { result ≡ (not (is_null cell.now) && not passed) }
+{
+    !cell.is_null() && !passed
 }
 
 fn is_passed(test: &Test, cell: &Cell) -> bool

@@ -23,7 +23,7 @@ use Rattle.sr_grammar.specs.declared.statement.JoinOn.{JoinOn}
 use Rattle.sr_grammar.specs.Words.{Word}
 use Rattle.sr_grammar.specs.Trees as tree
 use Rattle.sr_grammar.specs.Trees.{low_default, high_default}
-use Rattle.sr_model.specs.Conditions.{Cond, Conds, Test, Tests, And, Or, Not, none, more, Eq, Ne, Lt, Le, Gt, Ge, Between, OneOf, Prefix}
+use Rattle.sr_model.specs.Conditions.{Cond, Conds, Test, Tests, And, Or, Not, none, more, Eq, Ne, Lt, Le, Gt, Ge, Between, OneOf, Prefix, IsNull}
 use Rattle.sr_model.specs.Width.{width}
 use Rattle.sr_model.specs.Queries.{Part, Join, Output, Query}
 
@@ -210,6 +210,8 @@ test_of kind (atoms.Prefix text) = value_of kind text >>= λ v. Ok (true, Prefix
 test_of kind (atoms.NotBetween low high) = value_of kind low >>= λ a. value_of kind high >>= λ b. Ok (false, Between a b)
 test_of kind (atoms.NotOneOf all) = each (value_of kind) all >>= λ vs. Ok (false, OneOf vs)
 test_of kind (atoms.NotPrefix text) = value_of kind text >>= λ v. Ok (false, Prefix (text_of v))
+test_of kind atoms.IsNull = Ok (true, IsNull)
+test_of kind atoms.NotNull = Ok (false, IsNull)
 
 abbrev pub said : ℕ → Output → Bool × Test → Bound
 said place o (true, t) = Testing place o t

@@ -29,6 +29,8 @@ holds (atoms.Prefix text) = true
 holds (atoms.NotBetween low high) = false
 holds (atoms.NotOneOf all) = false
 holds (atoms.NotPrefix text) = false
+holds atoms.IsNull = true
+holds atoms.NotNull = false
 
 abbrev pub bounds_of : List binding.Bound → binding.Bounds
 bounds_of [] = binding.no_more

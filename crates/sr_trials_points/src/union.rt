@@ -28,6 +28,7 @@ fn employees(alloc: Global) -> Result<Table, NoMemory>
         kind: Kind::Str,
         lo: 0,
         hi: 0,
+        nullable: false,
     };
     let age = column(alloc, "age", 150)?;
     let dept = column(alloc, "dept", 99)?;

@@ -6,11 +6,11 @@ MOST_BYTES = 134217728
 WIRE = 2
 ALL_COLUMNS = list(range(12))
 
-# None is NULL
-Cell = Union[int, bytes, None]
-# a span is None for all values, or its two ends; a text has no upper end where the second is None. NULLS has NULL alone
+# NULL is None
+Cell = Union[None, int, bytes]
+# a span is None for all values, or its two ends; a text has no upper end where the second is None; NULL alone is a span of its own
 Span = Union[None, tuple]
-NULLS = ()
+NULL_SPAN = 'null', 'null'
 Rect = tuple
 
 
@@ -79,29 +79,27 @@ SHORT_TEXT = text(number(1, 0, 120), True)
 BOUND = text(number(1, 0, 121), False)
 
 
-def cell(most: int) -> Field:
-    """A cell by a number up to this one: 0 and a number, 1 and a text, or 2, which is NULL."""
-    def read(reader: Reader) -> Cell:
-        kind = number(1, 0, most).read(reader)
-        return None if kind == 2 else (SHORT_TEXT if kind else SIGNED).read(reader)
-
-    def spell(value: Cell) -> bytes:
-        if value is None:
-            return b'\2'
-        return b'\0' + SIGNED.spell(value) if isinstance(value, int) else b'\1' + SHORT_TEXT.spell(value)
-    return Field(read, spell)
+def read_cell(reader: Reader, last: int = 2) -> Cell:
+    kind = number(1, 0, last).read(reader)
+    return None if kind == 2 else (SHORT_TEXT if kind else SIGNED).read(reader)
 
 
-CELL, KEY = cell(2), cell(1)
+def spell_cell(cell: Cell) -> bytes:
+    if cell is None:
+        return b'\2'
+    return b'\0' + SIGNED.spell(cell) if isinstance(cell, int) else b'\1' + SHORT_TEXT.spell(cell)
+
+
+CELL = Field(read_cell, spell_cell)
+# a key is not NULL
+KEY = Field(lambda reader: read_cell(reader, 1), spell_cell)
 ROW = many(number(1, 1, 12), CELL)
 
 
 def read_span(reader: Reader) -> Span:
     kind = number(1, 0, 4).read(reader)
-    if kind == 0:
-        return None
-    if kind == 4:
-        return NULLS
+    if kind in (0, 4):
+        return NULL_SPAN if kind else None
     if kind == 3:
         return BOUND.read(reader), None
     end = SIGNED if kind == 1 else BOUND
@@ -114,7 +112,7 @@ def read_span(reader: Reader) -> Span:
 def spell_span(span: Span) -> bytes:
     if span is None:
         return b'\0'
-    if span == NULLS:
+    if span == NULL_SPAN:
         return b'\4'
     low, high = span
     if isinstance(low, int):
@@ -255,7 +253,7 @@ KINDS = {
     0x13: (Rows, ROWS),
     0x14: (Reply, one(Reply, LONG, LONG)),
     0x15: (Written, one(Written, LONG, LONG)),
-    0x16: (Refused, one(Refused, LONG, number(1, 1, 31), number(4))),
+    0x16: (Refused, one(Refused, LONG, number(1, 1, 33), number(4))),
     0x17: (Lapse, one(Lapse, LONG)),
 }
 KIND_OF = {kind: byte for byte, (kind, _) in KINDS.items()}

@@ -6,7 +6,7 @@ come from the same version, and stand between what `Server.ask` and `frames.Repl
 from collections import defaultdict, deque
 from typing import NamedTuple, Optional
 
-from .frames import ALL_COLUMNS, NULLS, WIRE, Ask, Hello, Lapse, Notice, Resume, Tell, Welcome, Write, Written
+from .frames import ALL_COLUMNS, WIRE, Ask, Hello, Lapse, Notice, Resume, Tell, Welcome, Write, Written
 from .ranges import Index, has_any
 
 MOST_TELLS = 10000
@@ -288,10 +288,9 @@ def rects_fit(tables: list, number: int, rects: list) -> bool:
 
 
 def span_fits(column, span) -> bool:
-    """No column here is nullable, so a span of NULL alone fits none."""
-    if span is None or span == NULLS:
-        return span is None
+    if span is None:
+        return True
     low, high = span
     if column.is_text:
-        return isinstance(low, bytes)
+        return isinstance(low, bytes) and span != (b'', None)
     return isinstance(low, int) and column.low <= low and high <= column.high

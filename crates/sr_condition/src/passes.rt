@@ -1,7 +1,7 @@
 //! Rows that a condition is true of.
 ghost use Rattle.std.specs.Prelude.{◌≡◌, true, not, ◌&&◌};
 ghost use Rattle.std.specs.List.{list_any};
-ghost use Rattle.sr_cell.specs.Cells.{cell_at, cell_eq, is_null};
+ghost use Rattle.sr_cell.specs.Cells.{cell_at, cell_eq, cell_le, is_null};
 ghost use Rattle.sr_model.specs.Conditions.{And, Or, Not, begins, begins_cell, is_so, on_value, passes, truth, is_true};
 ghost use Rattle.sr_model.specs.Sides.{all_say, some_say};
 ghost use Rattle.sr_model.specs.Statements.{meets};
@@ -132,11 +132,17 @@ fn is_passed(test: &Test, cell: &Cell) -> bool
 {
     match test {
         Test::Compared(op, value) => compares(*op, cell, value),
-        Test::Between(low, high) => of_value(cell, low.is_at_most(cell) && cell.is_at_most(high)),
+        Test::Between(low, high) => of_value(cell, lies_between(cell, low, high)),
         Test::OneOf(values) => of_value(cell, is_one_of(cell, values.as_slice())),
         Test::Prefix(start) => of_value(cell, begins(start, cell)),
         Test::IsNull => cell.is_null(),
     }
+}
+
+fn lies_between(cell: &Cell, low: &Cell, high: &Cell) -> bool
+    ensures { result ≡ (cell_le low.now cell.now && cell_le cell.now high.now) }
+{
+    low.is_at_most(cell) && cell.is_at_most(high)
 }
 
 fn compares(op: Op, cell: &Cell, value: &Cell) -> bool

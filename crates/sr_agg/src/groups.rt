@@ -109,11 +109,7 @@ fn grouped(alloc: Global, count: usize, items: &[Item], rows: &[Row]) -> Result<
 }
 
 /// What is told of a group.
-fn told_of(
-    alloc: Global,
-    key: &[Option<Cell>],
-    tallies: &[Tally],
-) -> Result<GroupRow, NoMemory>
+fn told_of(alloc: Global, key: &[Option<Cell>], tallies: &[Tally]) -> Result<GroupRow, NoMemory>
     ensures { IfOk result (λ row. row ≡ map (told_by key.now) tallies.now) }
 {
     let mut row = GroupRow::with_room(alloc, tallies.len())?;

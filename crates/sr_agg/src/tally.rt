@@ -162,11 +162,7 @@ impl Tally {
     }
 
     /// What it tells of the group with these grouping cells.
-    pub(crate) fn told(
-        &self,
-        alloc: Global,
-        key: &[Option<Cell>],
-    ) -> Result<Option<Cell>, NoMemory>
+    pub(crate) fn told(&self, alloc: Global, key: &[Option<Cell>]) -> Result<Option<Cell>, NoMemory>
         ensures { IfOk result (λ told. told ≡ told_by key.now self.now) }
     {
         match self {

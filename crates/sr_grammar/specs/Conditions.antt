@@ -92,9 +92,9 @@ IsNullTest = do
     _ ← KEY (codes "NOT")
     _ ← KEY (codes "NULL")
     Nothing NotNull) or
-    (do
-      _ ← KEY (codes "NULL")
-      Nothing IsNull))
+      (do
+        _ ← KEY (codes "NULL")
+        Nothing IsNull))
 
 -- op literal | [NOT] BETWEEN .. | [NOT] IN .. | [NOT] LIKE .. | IS [NOT] NULL
 abbrev pub IsAtom : Rule Atom

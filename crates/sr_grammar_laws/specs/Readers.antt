@@ -96,9 +96,9 @@ null_test = do
     _ ← key (codes "NOT")
     _ ← key (codes "NULL")
     nothing is_not_null)
-    (do
-      _ ← key (codes "NULL")
-      nothing IsNull)
+      (do
+        _ ← key (codes "NULL")
+        nothing IsNull)
 
 unfoldable pub atom : Reader Atom
 atom =

@@ -92,34 +92,34 @@ denied_again a x w h = elim h [
 null_again : Again IsNullTest atom
 null_again a x w h = elim h.5 [
   | inl k ↦ (let n = k.5 in subst (Printed IsNullTest atom) (sym n.5.0) (
-      (
-        0,
-        key (codes "IS") ∷ [],
-        key (codes "NOT") ∷ key (codes "NULL") ∷ [],
-        refl,
-        (key (codes "IS"), refl, refl),
-        inl (
-          0,
-          key (codes "NOT") ∷ [],
-          key (codes "NULL") ∷ [],
-          refl,
-          (key (codes "NOT"), refl, refl),
-          (0, key (codes "NULL") ∷ [], [], refl, (key (codes "NULL"), refl, refl), (refl, refl)),
-        ),
-      ),
+    (
+      0,
+      key (codes "IS") ∷ [],
+      key (codes "NOT") ∷ key (codes "NULL") ∷ [],
       refl,
-    ))
-  | inr k ↦ subst (Printed IsNullTest atom) (sym k.5.0) (
-      (
+      (key (codes "IS"), refl, refl),
+      inl (
         0,
-        key (codes "IS") ∷ [],
+        key (codes "NOT") ∷ [],
         key (codes "NULL") ∷ [],
         refl,
-        (key (codes "IS"), refl, refl),
-        inr (0, key (codes "NULL") ∷ [], [], refl, (key (codes "NULL"), refl, refl), (refl, refl)),
+        (key (codes "NOT"), refl, refl),
+        (0, key (codes "NULL") ∷ [], [], refl, (key (codes "NULL"), refl, refl), (refl, refl)),
       ),
+    ),
+    refl,
+  ))
+  | inr k ↦ subst (Printed IsNullTest atom) (sym k.5.0) (
+    (
+      0,
+      key (codes "IS") ∷ [],
+      key (codes "NULL") ∷ [],
       refl,
-    )
+      (key (codes "IS"), refl, refl),
+      inr (0, key (codes "NULL") ∷ [], [], refl, (key (codes "NULL"), refl, refl), (refl, refl)),
+    ),
+    refl,
+  )
 ]
 
 pub atom_again : Again IsAtom atom

@@ -20,7 +20,8 @@ use crate::items::{Item, list};
 use crate::read::Parsed;
 use crate::stop::Stop;
 use sr_grammar::statement::{
-    Cond, Delete, Insert, JoinOn, JoinOns, LiteralRow, Literals, Name, Names, Select, Set, Statement, Update,
+    Cond, Delete, Insert, JoinOn, JoinOns, LiteralRow, Literals, Name, Names, Select, Set,
+    Statement, Update,
 };
 use std::alloc::Global;
 

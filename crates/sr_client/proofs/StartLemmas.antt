@@ -74,7 +74,7 @@ by-first values c column columns ((s ∷ r) ∷ rects) has rest = (
   by-first values c column columns rects (λ v later. has v (behind v later)) rest.1,
 )
   where
-    abbrev own : List Cell
+    own : List Cell
     own = cuts_of column.kind column.lo column.hi column.nullable s
 
     front : (v : Cell) → is_among own v ≡ true → is_among (own ++ first_cuts column rects) v ≡ true

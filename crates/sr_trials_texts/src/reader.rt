@@ -109,7 +109,8 @@ fn scripts_are_read(rt: HostRuntime) {
 }
 
 // A table with NULL, and a query that no row with a NULL meets.
-const NULLS: &[u8] = b"CREATE TABLE n (id INT PRIMARY KEY CHECK (id BETWEEN 0 AND 9), a INT NULL CHECK (a BETWEEN 0 AND 9))";
+const NULLS: &[u8] =
+    b"CREATE TABLE n (id INT PRIMARY KEY CHECK (id BETWEEN 0 AND 9), a INT NULL CHECK (a BETWEEN 0 AND 9))";
 
 const NOT_BELOW: &str = "SELECT id FROM n WHERE NOT (a < 6 OR a IS NULL)";
 

@@ -7,7 +7,7 @@ from .sql import Refusal
 
 
 class Test(NamedTuple):
-    """A test of the column with this number: a comparison, BETWEEN, IN or LIKE of these values, or IS of none, which is for NULL."""
+    """A test of the column with this number: a comparison, BETWEEN, IN or LIKE of these values, or IS, which is of NULL."""
     column: int
     word: str
     values: list

@@ -39,7 +39,7 @@ class Table(NamedTuple):
 
 
 def table_of(create: sql.Create, before: list) -> Table:
-    """The table of a CREATE, behind these tables. No column may be nullable."""
+    """The table of a CREATE, behind these tables."""
     names = [column.name for column in create.columns]
     repeated = [c for c, name in enumerate(names) if name in names[:c]]
     if create.name in [table.name for table in before]:

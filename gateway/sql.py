@@ -46,13 +46,13 @@ class Reference(NamedTuple):
 
 
 class Literal(NamedTuple):
-    """A number or a text; None, which is NULL, where a row gets a value."""
-    value: Union[int, bytes, None]
+    """A number, a text, or None where it is NULL, as a value may be."""
+    value: Union[None, int, bytes]
     at: int
 
 
 class Test(NamedTuple):
-    """A test of a column by a word: a comparison, BETWEEN, IN, LIKE, or IS, which is for NULL and has no literals."""
+    """A test of a column by a word: a comparison, BETWEEN, IN or LIKE, or IS, which is of NULL."""
     reference: Reference
     word: str
     literals: list
@@ -195,7 +195,8 @@ class Cursor:
         return Literal(self.number(), at) if self.comes('-') else Literal(self.one_of('number', 'text').value, at)
 
     def value(self) -> Literal:
-        return Literal(None, self.take().at) if self.comes('NULL') else self.literal()
+        at = self.next.at
+        return Literal(None, at) if self.maybe('NULL') else self.literal()
 
     # ---- conditions
 
@@ -225,6 +226,10 @@ class Cursor:
             if not self.comes('BETWEEN', 'IN', 'LIKE'):
                 self.fail()
             return Not(self.test(reference))
+        if self.maybe('IS'):
+            is_contrary, test = self.maybe('NOT'), Test(reference, 'IS', [])
+            self.need('NULL')
+            return Not(test) if is_contrary else test
         if self.maybe('BETWEEN'):
             low = self.literal()
             self.need('AND')
@@ -233,10 +238,6 @@ class Cursor:
             return Test(reference, 'IN', self.enclosed(lambda: self.list_of(self.literal)))
         if self.maybe('LIKE'):
             return Test(reference, 'LIKE', [self.prefix()])
-        if self.maybe('IS'):
-            is_not = self.maybe('NOT')
-            self.need('NULL')
-            return Not(Test(reference, 'IS', [])) if is_not else Test(reference, 'IS', [])
         if not self.comes('!=', *COMPARISONS):
             self.fail()
         return Test(reference, self.take().value.replace('!=', '<>'), [self.literal()])
@@ -309,9 +310,10 @@ class Cursor:
         name = self.name().text
         if not self.comes('INT', 'INTEGER', 'TEXT'):
             self.fail()
-        is_text, left, rules = self.take().value == 'TEXT', {'PRIMARY', 'NULL', 'NOT', 'CHECK'}, []
+        is_text, left, rules = self.take().value == 'TEXT', ['PRIMARY', 'NULL', 'NOT', 'CHECK'], []
         while self.comes(*left):
-            left -= {'NULL', 'NOT'} if self.comes('NULL', 'NOT') else {self.next.value}
+            gone = ('NULL', 'NOT') if self.comes('NULL', 'NOT') else (self.next.value,)
+            left = [word for word in left if word not in gone]
             rules.append(self.rule())
         return ColumnRules(name, is_text, rules)
 
@@ -320,8 +322,9 @@ class Cursor:
         word = self.take().value
         if word == 'CHECK':
             return (word, *self.enclosed(self.check))
-        if word != 'NULL':
-            self.need('KEY' if word == 'PRIMARY' else 'NULL')
+        if word == 'NULL':
+            return (word,)
+        self.need('KEY' if word == 'PRIMARY' else 'NULL')
         return (word,)
 
     def check(self) -> tuple:
@@ -338,7 +341,7 @@ def judge(create: Create) -> None:
         for _, name, low, high in [rule for rule in column.rules if rule[0] == 'CHECK']:
             if name != column.name or column.is_text or not LEAST_NUMBER <= low <= high <= MOST_NUMBER:
                 raise Refusal('bad-domain', 0)
-    if any({('PRIMARY',), ('NULL',)} <= set(column.rules) for column in create.columns):
+    if any(('PRIMARY',) in column.rules and ('NULL',) in column.rules for column in create.columns):
         raise Refusal('bad-null', 0)
     if sum(('PRIMARY',) in column.rules for column in create.columns) != 1:
         raise Refusal('no-key', 0)

@@ -100,7 +100,7 @@ beside-in column t s v lacks no_null f p = go (is_null v) refl
 beside-times : (column : Column) (t s : Span) (v : Cell) → span_fits column t ≡ true → in_column column v ≡ true → times_in (beside column t s) v ≤ (if in_span s v then 1 else 0)
 beside-times column t s v f p =
     let u = under-is column.lo s t v (in_kind-low column.kind column.lo column.hi column.nullable v p) in let o = over-is column.hi s t v (in_kind-high column.kind column.lo column.hi column.nullable v p) in
-    let a = apart-is column.kind column.lo column.hi column.nullable t v f p in let a1 = a.1.0 in
+    let a = apart-is column.kind column.lo column.hi column.nullable t v f p in let a1 = a.1 in
     let x = some-times (under column.lo s t) v in let y = some-times (over column.hi s t) v in
     let z = times-append (option_to_list (under column.lo s t)) (option_to_list (over column.hi s t)) v in
     go (in_maybe (under column.lo s t) v) (in_maybe (over column.hi s t) v) (in_span s v) (is_under t v) (is_over t v) _ u o a1 (z ∙ grind (arith, x, y))

@@ -2,26 +2,31 @@
 use Rattle.std.proofs.Common.{◌≡◌, ℕ, zero, suc, ◌+◌, ◌<◌, ◌≤◌, true, false, List, [], ◌∷◌, ◌++◌, length, take, slice_index_or, refl, sym, subst, arith, ◌∙◌, ap}
 use Rattle.std.specs.Prelude.{Bool, not, ◌&&◌, ◌||◌, Some, flat_map, if◌then◌else◌}
 use Rattle.std.specs.List.{list_all, list_any, AllByRecursion}
+use Rattle.std.proofs.lemmas.Int.{ints}
 use Rattle.std.proofs.lemmas.List.{take_more}
 use Rattle.std.proofs.Math.Seq.{take-length}
 use Rattle.std.proofs.lemmas.List.Folds.{list_any-append}
 use Rattle.sr_cell.specs.declared.cell.Cell.{Cell}
 use Rattle.sr_cell.specs.declared.cell.Cell.TheVariants.{Num, Str, Null as NullCell}
+use Rattle.sr_cell.specs.declared.table.Kind.{Kind}
+use Rattle.sr_cell.specs.declared.table.Kind.TheVariants.{Num as Numbers, Str as Texts}
 use Rattle.sr_cell.specs.declared.table.Column.{Column}
 use Rattle.sr_cell.specs.Cells.{cell_eq, is_null}
 use Rattle.sr_cell.specs.Columns.{in_column}
-use Rattle.sr_cell.specs.Names.{is_bad_domain}
+use Rattle.sr_cell.specs.Names.{is_bad_by, is_bad_domain}
 use Rattle.sr_cell.proofs.Order.{cell_eq-sound}
 use Rattle.sr_box.specs.declared.span.Span.{Span}
-use Rattle.sr_box.specs.Spans.{in_span, span_fits}
+use Rattle.sr_box.specs.declared.span.Span.TheVariants.{Full, Nums, Strs, Null}
+use Rattle.sr_box.specs.Cut.{IsInner}
+use Rattle.sr_box.specs.Spans.{in_span, span_fits, fits_kind}
 use Rattle.sr_union.specs.Grid.{is_among}
 use Rattle.sr_union.proofs.Cuts.{is_among-append}
 use Rattle.sr_union.proofs.Low.{low_of, low-in}
 use Rattle.sr_model.specs.Conditions.{OneOf}
 use Rattle.sr_model.specs.Ends.{places_of}
-use Rattle.sr_condition.specs.Ranges.{says_test, EndsAt, in_spans, is_left, times_in, beside, AreSpans, AreApart}
+use Rattle.sr_condition.specs.Ranges.{says_test, EndsAt, all_values, in_spans, is_left, times_in, beside, AreSpans, AreApart}
 use Rattle.sr_condition.proofs.Joins.{spans-with}
-use Rattle.sr_condition.proofs.Apart.{LacksNull, AllLackNull, null-inside, first-in, apart-without}
+use Rattle.sr_condition.proofs.Apart.{LacksNull, AllLackNull, null-inside, first-in, apart-without, apart-whole}
 
 -- ---- each span has a value of the list, and each value lies in one span at most
 
@@ -122,6 +127,24 @@ ends-in column places (s ∷ spans) (suc i) d l f = ends-in column places spans 
 
 pub fits_at : (column : Column) (spans : List Span) (i : ℕ) (s : Span) → i < length spans → s ≡ slice_index_or spans i s → list_all (span_fits column) spans ≡ true → span_fits column s ≡ true
 fits_at column spans i s l e f = subst (λ x. span_fits column x ≡ true) (sym e) (fits-in column spans i s l f)
+
+inner : (k : Kind) (column : Column) (s : Span) → is_bad_by k column ≡ false → fits_kind k column.lo column.hi column.nullable s ≡ true → IsInner s
+inner k column Full good f = tt
+inner k column Null good f = tt
+inner k column (Strs a b) good f = tt
+inner Numbers column (Nums a b) good f = (grind (arith, ints), grind (arith, ints))
+inner Texts column (Nums a b) good f = absurd (grind arith)
+
+-- the next span that is taken out lies far inside an i64
+pub next-inner : (column : Column) (taken items : List Span) (i : ℕ) (s : Span) → is_bad_domain column ≡ false → items ≡ taken → i < length items → s ≡ slice_index_or items i s
+    → list_all (span_fits column) taken ≡ true → IsInner s
+next-inner column taken items i s good same l at fits =
+    inner column.kind column s good (fits_at column items i s l at (subst (λ (xs : List Span). list_all (span_fits column) xs ≡ true) (sym same) fits))
+
+-- at first all values but Null are left
+pub left-first : (column : Column) (ends : List Cell) (spans : List Span) → is_bad_domain column ≡ false → spans ≡ all_values column ∷ [] → AreApart column (is_left []) 1 (NullCell ∷ ends) spans
+left-first column ends spans good is = subst (AreApart column (is_left []) 1 (NullCell ∷ ends)) (sym is)
+    (apart-with column (λ v. not (is_null v)) (is_left []) 1 (NullCell ∷ []) (NullCell ∷ ends) (all_values column ∷ []) (apart-whole column good) (λ v i. grind arith) (λ v h. grind (arith, h)))
 
 -- one span more is taken out
 pub left-step : (column : Column) (places : List Cell) (taken items : List Span) (i : ℕ) (s : Span) (spans new : List Span) → is_bad_domain column ≡ false → items ≡ taken → i < length items

@@ -304,8 +304,8 @@ fn left_by(alloc: Global, column: &Column, taken: &Spans) -> Result<Spans, NoMem
     requires good { is_bad_domain column.now ≡ false }
     requires fits { list_all (span_fits column.now) taken.now ≡ true }
     requires values { column.now.nullable ≡ true → in_spans taken.now NullCell ≡ false }
-    ensures { (places : List Value) → AllByRecursion (EndsAt column.now places) taken.now
-        → IfOk result (AreApart column.now (is_left taken.now) (length taken.now + 1) places) }
+    ensures { (ends : List Value) → AllByRecursion (EndsAt column.now (NullCell ∷ ends)) taken.now
+        → IfOk result (AreApart column.now (is_left taken.now) (length taken.now + 1) (NullCell ∷ ends)) }
 {
     let mut spans = whole(alloc, column)?;
     for span in taken.as_slice() {

@@ -101,11 +101,8 @@ pub fn holds(atom: &Atom) -> bool
     ensures { result ≡ holds atom.now }
 {
     match atom {
-        Atom::Cmp(_, _)
-        | Atom::Between(_, _)
-        | Atom::OneOf(_)
-        | Atom::Prefix(_)
-        | Atom::IsNull => true,
+        Atom::Cmp(_, _) | Atom::Between(_, _) | Atom::OneOf(_) | Atom::Prefix(_) | Atom::IsNull =>
+            true,
         Atom::NotBetween(_, _) | Atom::NotOneOf(_) | Atom::NotPrefix(_) | Atom::NotNull => false,
     }
 }

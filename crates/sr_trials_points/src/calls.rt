@@ -78,9 +78,11 @@ fn null_is_left(alloc: Global) -> Result<bool, NoMemory> {
         return Ok(false);
     }
     match all.minus(alloc, &numbers, &table, 100) {
-        Ok(left) => Ok(left.len() == 1
-            && has_pair(alloc, &left, Cell::Null)?
-            && !has_pair(alloc, &left, Cell::Num(9))?),
+        Ok(left) => Ok(
+            left.len() == 1
+                && has_pair(alloc, &left, Cell::Null)?
+                && !has_pair(alloc, &left, Cell::Num(9))?,
+        ),
         Err(_) => Ok(false),
     }
 }

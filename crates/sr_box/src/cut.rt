@@ -205,7 +205,12 @@ impl Span {
 
     /// The part that lies on the other side of Null: Null itself where the other span has it not, or the values that are
     /// not Null where that has it alone.
-    pub fn beyond(&self, alloc: Global, other: &Span, column: &Column) -> Result<Option<Span>, NoMemory>
+    pub fn beyond(
+        &self,
+        alloc: Global,
+        other: &Span,
+        column: &Column,
+    ) -> Result<Option<Span>, NoMemory>
         ensures { IfOk result (λ part. part ≡ beyond column.now.kind column.now.lo column.now.hi column.now.nullable self.now other.now) }
     {
         match (self, other) {

@@ -74,14 +74,12 @@ by-first values c column columns ((s ∷ r) ∷ rects) has rest = (
   by-first values c column columns rects (λ v later. has v (behind v later)) rest.1,
 )
   where
-    own : List Cell
-    own = cuts_of column.kind column.lo column.hi column.nullable s
+    front : (v : Cell) → is_among (cuts_of column.kind column.lo column.hi column.nullable s) v ≡ true
+        → is_among (cuts_of column.kind column.lo column.hi column.nullable s ++ first_cuts column rects) v ≡ true
+    front v h = let e = is_among-append (cuts_of column.kind column.lo column.hi column.nullable s) (first_cuts column rects) v in grind (arith, e, h)
 
-    front : (v : Cell) → is_among own v ≡ true → is_among (own ++ first_cuts column rects) v ≡ true
-    front v h = let e = is_among-append own (first_cuts column rects) v in grind (arith, e, h)
-
-    behind : (v : Cell) → is_among (first_cuts column rects) v ≡ true → is_among (own ++ first_cuts column rects) v ≡ true
-    behind v h = let e = is_among-append own (first_cuts column rects) v in grind (arith, e, h)
+    behind : (v : Cell) → is_among (first_cuts column rects) v ≡ true → is_among (cuts_of column.kind column.lo column.hi column.nullable s ++ first_cuts column rects) v ≡ true
+    behind v h = let e = is_among-append (cuts_of column.kind column.lo column.hi column.nullable s) (first_cuts column rects) v in grind (arith, e, h)
 
 own-cuts : (values : ℕ → List Cell) (c : ℕ) (columns : List Column) (rects : List Rect) → HasCuts values c columns rects → AllByRecursion (CutsIn values c columns) rects
 own-cuts values c [] rects has = no-columns values c rects

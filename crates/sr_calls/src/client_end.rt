@@ -2,9 +2,6 @@
 ghost use Rattle.std.specs.Prelude.{◌≡◌, ◌≤◌, None, IfOk, IsTrue};
 ghost use Rattle.std.specs.List.{list_all};
 ghost use Rattle.sr_query.specs.Bound.{is_table};
-ghost use Rattle.sr_store.specs.Starting.{IsStart};
-ghost use Rattle.sr_client.specs.Stands.{StandsFor};
-ghost use Rattle.sr_client.specs.Starting.{start_client, start_past};
 ghost use Rattle.sr_image.specs.Joining.{image_from};
 ghost use Rattle.sr_image.specs.Laws.{is_image};
 ghost use Rattle.sr_image.specs.Writing.{may_write_image};
@@ -12,14 +9,11 @@ ghost use Rattle.sr_calls.specs.ClientEnds.{IsReady, end_with};
 ghost use Rattle.sr_calls.specs.Runs.{new_end};
 
 use crate::calls;
-use crate::start::start_from;
 use sr_cell::fault::Fault;
 use sr_cell::list::{Copied, NoMemory};
 use sr_cell::schema::Schema;
 use sr_client::client::Client;
-use sr_client::start::ClientStart;
 use sr_dial::parts::{Answer, Asks, Came, Told};
-use sr_history::mark::Marks;
 use sr_image::image::Image;
 use sr_image::joining::image_of_store;
 use sr_links::laws::{Hearer, Peer};
@@ -39,13 +33,6 @@ pub struct ClientEnd {
     keeps: bool,
     says: bool,
     answer: Option<Answer>,
-}
-
-/// The end of a client that starts from an image, and the marks of what it holds and dropped at its start.
-#[derive(Drop)]
-pub struct EndStart {
-    pub end: ClientEnd,
-    pub marks: Marks,
 }
 
 impl Model for ClientEnd {
@@ -90,32 +77,6 @@ impl ClientEnd {
         let own = schema.copy(alloc)?;
         let client = Client::new(alloc, id, own, limits);
         Ok(ClientEnd::new(client, keeps, says))
-    }
-
-    /// The end of a client that starts from an image, and the marks of its start.
-    pub fn of_image(
-        alloc: Global,
-        id: u8,
-        schema: &Schema,
-        limits: Limits,
-        image: Image,
-        keeps: bool,
-        says: bool,
-    ) -> Result<EndStart, NoMemory>
-        requires first { 1 ≤ id }
-        requires last { id ≤ 64 }
-        requires tables { IsTrue (list_all is_table schema.now) }
-        requires regions { limits.regions ≤ 1024 }
-        requires image { IsTrue (is_image schema.now image) }
-        ensures end { IfOk result (λ start. start.end ≡ end_with keeps says (start_client id schema.now limits image.version start.end.client.store) None) }
-        ensures store { IfOk result (λ start. IsStart schema.now limits image.kept (record { store = start.end.client.store; marks = start.marks })) }
-        ensures stands { IfOk result (λ start. StandsFor (start_past schema.now image.version image.kept start.marks) start.end.client) }
-    {
-        let ClientStart { client, marks } = start_from(alloc, id, schema, limits, image)?;
-        Ok(EndStart {
-            end: ClientEnd::new(client, keeps, says),
-            marks,
-        })
     }
 
     /// The client.

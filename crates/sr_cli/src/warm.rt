@@ -26,10 +26,12 @@ use crate::kinds::Files;
 use crate::report::{Refusal, report, unread};
 use crate::save::write_bytes;
 use crate::stop::{Stop, end_by, stop_of};
-use sr_calls::client_end::{ClientEnd, EndStart};
+use sr_calls::client_end::ClientEnd;
 use sr_calls::run::run_plan;
+use sr_calls::start::start_from;
 use sr_cell::list::{Bytes, No, NoMemory};
 use sr_cell::schema::Schema;
+use sr_client::start::ClientStart;
 use sr_dial::plans::{Plans, Script as Lines};
 use sr_history::mark::Marks;
 use sr_image::image::{Image, ImageFault};
@@ -250,16 +252,9 @@ fn begin(
         → IfOk result (λ begun. BeginsAs words.now schema.now bytes (string_bytes begun.text) begun.end) }
 {
     let version = image.version;
-    let EndStart { end, marks } = ClientEnd::of_image(
-        alloc,
-        words.id,
-        schema,
-        words.limits,
-        image,
-        false,
-        true,
-    )?;
+    let ClientStart { client, marks } = start_from(alloc, words.id, schema, words.limits, image)?;
     let text = text_of_start(alloc, schema, words.id, version, marks)?;
+    let end = ClientEnd::new(client, false, true);
     Ok(Begun { end, text })
 }
 

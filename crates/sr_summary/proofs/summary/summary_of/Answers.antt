@@ -6,7 +6,7 @@ use Rattle.sr_generate.specs.Script.{script}
 use Rattle.sr_generate.proofs.Accepted.{accepted-script}
 use Rattle.sr_generate.proofs.Inside.{inside-script}
 use Rattle.sr_lines.specs.Lines.{lines_of}
-use Rattle.sr_lines.specs.Script.{FirstRefused}
+use Rattle.sr_lines.specs.Script.{FirstRefused, LinePlace}
 use Rattle.sr_world.specs.Replay.{outside}
 use Rattle.sr_world.specs.declared.replay.RunFault.{RunFault}
 use Rattle.sr_world.specs.declared.replay.RunFault.TheVariants as fault
@@ -15,6 +15,9 @@ use Rattle.sr_summary.specs.declared.summary.Counts.{Counts}
 use Rattle.sr_summary.proofs.Sizes.{short_script}
 use Rattle.sr_summary.proofs.summary.summary_of.Goals as goal
 
+no-place : (at : LinePlace) → Some at ≡ None → ⊥
+no-place at is = cc
+
 -- a script that is made is refused for no reason
 never-refused : (text : List ℕ) (seed events : ℕ) (why : RunFault) → text ≡ script seed events → ¬ (why ≡ fault.WriteFault)
     → ((line place : ℕ) → why ≡ fault.Line line place → outside 1 text ≡ Some (record { line = line; place = place }))
@@ -22,8 +25,7 @@ never-refused : (text : List ℕ) (seed events : ℕ) (why : RunFault) → text 
     → ((table : List ℕ) (cause : Fault) → ¬ (why ≡ fault.Load table cause)) → ⊥
 never-refused text seed events fault.WriteFault is write line setup load = write refl
 never-refused text seed events (fault.Line at place) is write line setup load =
-    let none : Some (record { line = at; place = place }) ≡ None = sym (line at place refl) ∙ ap (outside 1) is ∙ inside-script seed events in
-    cc
+    no-place (record { line = at; place = place }) (sym (line at place refl) ∙ ap (outside 1) is ∙ inside-script seed events)
 never-refused text seed events (fault.Setup at cause) is write line setup load =
     accepted-script seed events at cause (subst (λ (s : List ℕ). FirstRefused 1 1 [] (lines_of s) at cause) is (setup at cause refl))
 never-refused text seed events (fault.Load table cause) is write line setup load = load table cause refl

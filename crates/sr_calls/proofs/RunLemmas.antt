@@ -36,11 +36,6 @@ pub ran_new : (id : ℕ) (address : List ℕ) (schema : List Table) (limits : Li
     → RanFrom (new_end id schema limits keeps says) new_past address plan ended old new before after left → RanNew id address schema limits keeps says plan ended old new before after
 ran_new id address schema limits keeps says plan ended old new before after left tables ran = record { begins = begins id schema limits keeps says tables; left = left; ran = ran }
 
--- the same, with the end that it left
-pub ran_as : (id : ℕ) (address : List ℕ) (schema : List Table) (limits : Limits) (keeps says : Bool) (plan : Plan Task Answer) (ended : Ending) (old new : Linking) (before after : Writing) (left : End) → list_all is_table schema ≡ true
-    → RanFrom (new_end id schema limits keeps says) new_past address plan ended old new before after left → (r : RanNew id address schema limits keeps says plan ended old new before after) × (r.left ≡ left)
-ran_as id address schema limits keeps says plan ended old new before after left tables ran = (ran_new id address schema limits keeps says plan ended old new before after left tables ran, refl)
-
 pub broke_new : (id : ℕ) (address : List ℕ) (schema : List Table) (limits : Limits) (keeps says : Bool) (plan : Plan Task Answer) (old new : Linking) (before after : Writing) → list_all is_table schema ≡ true
     → RanOff (new_end id schema limits keeps says) new_past address plan old new before after → RanNewInPart id address schema limits keeps says plan old new before after
 broke_new id address schema limits keeps says plan old new before after tables ran = record { begins = begins id schema limits keeps says tables; ran = ran }

@@ -76,7 +76,8 @@ pub trait Asks: Peer + Hearer {
     fn act(&mut self, alloc: Global, event: Event) -> Result<Told, NoMemory>
         requires asks { (deed : Deed) × IsDeed (setting self.old).schema event deed }
         requires room { 2 ≤ room self.old }
-        ensures made { (c : Past) (deed : Deed) → stands self.old c → IsDeed (setting self.old).schema event deed → IfOk result (λ told. Makes stands lent Self.is_of Self.has_told (setting self.old) self.old self.new c deed told.lines told.sent) }
+        ensures made { (c : Past) (deed : Deed) → stands self.old c → IsDeed (setting self.old).schema event deed
+            → IfOk result (λ told. Makes stands lent Self.is_of Self.has_told (setting self.old) self.old self.new c deed told.lines told.sent) }
         ensures sendable { IfOk result (λ told. All IsSendable told.sent) }
         ensures setting { setting self.new ≡ setting self.old }
         ensures draws { room self.old ≤ room self.new + 2 };
@@ -90,14 +91,16 @@ pub trait Asks: Peer + Hearer {
     fn take(&mut self, alloc: Global, message: Message) -> Result<Came, NoMemory>
         requires room { 2 ≤ room self.old }
         ensures sendable { IfOk result MaySend }
-        ensures taken { (c : Past) → stands self.old c → IfOk result (λ came. TakesAs came stands lent Self.is_of Self.has_told (setting self.old) self.old self.new c message) }
+        ensures taken { (c : Past) → stands self.old c
+            → IfOk result (λ came. TakesAs came stands lent Self.is_of Self.has_told (setting self.old) self.old self.new c message) }
         ensures setting { setting self.new ≡ setting self.old }
         ensures draws { room self.old ≤ room self.new + 2 };
 
     /// The link was cut. Answers the lines; takes no memory but for these.
     fn cut(&mut self, alloc: Global) -> Result<TraceLines, NoMemory>
         requires room { 2 ≤ room self.old }
-        ensures made { (c : Past) → stands self.old c → IfOk result (λ lines. Makes stands lent Self.is_of Self.has_told (setting self.old) self.old self.new c WasCut lines []) }
+        ensures made { (c : Past) → stands self.old c
+            → IfOk result (λ lines. Makes stands lent Self.is_of Self.has_told (setting self.old) self.old self.new c WasCut lines []) }
         ensures setting { setting self.new ≡ setting self.old }
         ensures draws { room self.old ≤ room self.new + 2 };
 }

@@ -61,7 +61,8 @@ pub(crate) fn near_in_turn<'a>(
     rows: &'a KeyedRows,
     rects: &[Rect],
 ) -> Result<Option<Vec<&'a Row>>, NoMemory>
-    ensures { IfOk result (λ found. IfSome found (λ near. filter (in_any rects.now) (map (λ r. r.now) near.items) ≡ filter (in_any rects.now) rows.now.rows)) }
+    ensures { IfOk result (λ found. IfSome found (λ near.
+        filter (in_any rects.now) (map (λ r. r.now) near.items) ≡ filter (in_any rects.now) rows.now.rows)) }
 {
     rows.know_ascending();
     let key = rows.key();

@@ -1,5 +1,5 @@
 -- Over true steps each answer is that of its task.
-use Rattle.std.proofs.Common.{◌≡◌, ℕ, Bool, true, false, List, [], ◌∷◌, refl, sym, ◌∙◌, ap, subst}
+use Rattle.std.proofs.Common.{◌≡◌, ℕ, Bool, true, false, List, [], ◌∷◌, sym, ◌∙◌, ap, subst}
 use Rattle.std.specs.Prelude.{Option, Some, None, Ok, Err, IfSome}
 use Rattle.sr_cell.specs.declared.table.Table.{Table}
 use Rattle.sr_model.specs.Queries.{Query}
@@ -7,12 +7,12 @@ use Rattle.sr_policy.specs.declared.policy.Limits.{Limits}
 use Rattle.sr_session.specs.Clients.{Client}
 use Rattle.sr_session.specs.Rules.{Outcome, Answered, AskSent, WriteSent, ResumeSent, WriteDone, WriteRefused, Welcomed, CutDone}
 use Rattle.sr_session.specs.Sessions.{Database}
-use Rattle.sr_links.specs.Answers.{IsTrueAnswer, IsTrueStep, AreTrueSteps}
+use Rattle.sr_links.specs.Answers.{IsTrueAnswer, AreTrueSteps}
 use Rattle.sr_links.specs.Outs.{LeavesOut}
 use Rattle.sr_links.specs.Queried.{query_out, query_of}
-use Rattle.sr_links.specs.Steps.{Step, Deed, Queried, Wrote, Evicted, Took, WasCut, Resumed}
+use Rattle.sr_links.specs.Steps.{Deed, Queried, Wrote, Evicted, Took, WasCut, Resumed}
 use Rattle.sr_plan.specs.Plans.{AreAnswered}
-use Rattle.sr_dial.specs.Calls.{Cause, Scripted, Delivered, Failed, Done, Made, Explained, Said, Task, Do, Explain, Say, steps_in}
+use Rattle.sr_dial.specs.Calls.{Scripted, Delivered, Failed, Done, Made, Explained, Said, Do, steps_in}
 use Rattle.sr_dial.specs.Following.{answer_of, dids_of}
 use Rattle.sr_dial.specs.Runs.{IsInPlace, AreInPlace}
 use Rattle.sr_dial.specs.declared.parts.Answer.{Answer}

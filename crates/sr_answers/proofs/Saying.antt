@@ -1,6 +1,6 @@
 -- What a plan writes over true steps.
 use Rattle.std.proofs.Common.{ℕ, Bool, List, [], ◌∷◌}
-use Rattle.std.specs.Prelude.{Option, IfSome}
+use Rattle.std.specs.Prelude.{Option}
 use Rattle.sr_cell.specs.declared.table.Table.{Table}
 use Rattle.sr_policy.specs.declared.policy.Limits.{Limits}
 use Rattle.sr_session.specs.Clients.{Client}

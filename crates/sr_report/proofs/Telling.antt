@@ -1,13 +1,12 @@
 -- What a report writes over true steps.
-use Rattle.std.proofs.Common.{inl, inr, ◌≡◌, ℕ, zero, suc, ◌+◌, ◌<◌, Bool, List, [], ◌∷◌, length, refl, sym, ◌∙◌, ap, subst, arith}
-use Rattle.std.specs.Prelude.{Option, Some, None, Ok, Err, IfSome, slice_index_or}
+use Rattle.std.proofs.Common.{inl, inr, ◌≡◌, ℕ, suc, ◌+◌, ◌<◌, List, [], ◌∷◌, refl, sym, ◌∙◌, subst, arith}
+use Rattle.std.specs.Prelude.{Option, Some, None, Ok, IfSome}
 use Rattle.std.specs.List.{AllZip, Contains}
-use Rattle.sr_cell.specs.declared.cell.Cell.{Cell}
 use Rattle.sr_cell.specs.Cells.{Row}
 use Rattle.sr_cell.specs.declared.table.Table.{Table}
 use Rattle.sr_lines.specs.Events.{ScriptEvent, DoExec, DoQuery, DoWrite, DoExplain, DoPush, DoToServer, DoToClient, DoSettle, DoEvict, DoCut, DoResume}
 use Rattle.sr_lines.specs.Lines.{lines_of}
-use Rattle.sr_model.specs.Queries.{Query, rows_of}
+use Rattle.sr_model.specs.Queries.{Query}
 use Rattle.sr_session.specs.Sessions.{Database, tables_of}
 use Rattle.sr_links.specs.Steps.{Queried}
 use Rattle.sr_plan.specs.Plans.{Plan, AllTasksIf}
@@ -23,7 +22,7 @@ use Rattle.sr_agg.specs.Laws.{Tells}
 use Rattle.sr_agg.specs.Starting.{Plan as Telling}
 use Rattle.sr_agg.proofs.Lawful.{plans-tell}
 use Rattle.sr_report.specs.Laws.{HasAggregate, IsRightText, ReportsAreRight}
-use Rattle.sr_report.specs.Plans.{Entry, Asks, Refused, Tells as EntryTells, task_of, ComesTo, LineComesTo, AsksReport, report_plan, plan_behind, telling_of}
+use Rattle.sr_report.specs.Plans.{Entry, Asks, Refused, Tells as EntryTells, task_of, ComesTo, LineComesTo, report_plan, plan_behind, telling_of}
 
 -- ---- members
 

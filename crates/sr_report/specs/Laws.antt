@@ -8,13 +8,12 @@ use Rattle.sr_policy.specs.declared.policy.Limits.{Limits}
 use Rattle.sr_session.specs.Clients.{Client}
 use Rattle.sr_session.specs.Sessions.{Database, newest, tables_of}
 use Rattle.sr_links.specs.Answers.{AreTrueSteps}
-use Rattle.sr_links.specs.Steps.{Queried, Resumed}
+use Rattle.sr_links.specs.Steps.{Resumed}
 use Rattle.sr_plan.specs.Plans.{AllTasks, GoBy, Next, begun}
 use Rattle.sr_dial.specs.Calls.{Done, Do, steps_in}
 use Rattle.sr_dial.specs.Following.{Ahead, dids_of}
 use Rattle.sr_dial.specs.Honest.{IsAskedFor}
 use Rattle.sr_dial.specs.Runs.{AreInPlace}
-use Rattle.sr_dial.specs.declared.parts.Answer.{Answer}
 use Rattle.sr_answers.specs.Texts.{AllSaid}
 use Rattle.sr_agg.specs.declared.agg.AggFault.{AggFault}
 use Rattle.sr_agg.specs.Laws.{Tells}

@@ -1,29 +1,42 @@
 -- What comes of an answer, stage by stage.
-use Rattle.std.proofs.Common.{◌≡◌, ℕ, Bool, true, false, List, [], ◌∷◌, length, refl, sym, ap, ◌∙◌, if◌then◌else◌}
+use Rattle.std.proofs.Common.{◌≡◌, ℕ, Bool, true, false, List, [], ◌∷◌, ◌++◌, map, length, refl, sym, ap, ◌∙◌, if◌then◌else◌}
 use Rattle.std.specs.Prelude.{◌==◌, ◌&&◌, nat_lt, Option, Some, None}
 use Rattle.std.specs.Cmp.{first_so, second_so}
 use Rattle.std.specs.List.{list_all}
 use Rattle.std.proofs.lemmas.Bool.{eqb-true}
+use Rattle.std.proofs.lemmas.List.Concat.{flat_map-cons}
 use Rattle.sr_cell.specs.declared.cell.Cell.{Cell}
-use Rattle.sr_cell.specs.Cells.{Row}
+use Rattle.sr_cell.specs.declared.cell.Cell.TheVariants.{Num, Str, Null}
+use Rattle.sr_cell.specs.Cells.{Row, cell_at}
 use Rattle.sr_model.specs.Queries.{Part, Join, Query, rows_of}
 use Rattle.sr_model.specs.Statements.{Tables}
-use Rattle.sr_query.specs.Binding.{is_inside}
 use Rattle.sr_semi.specs.declared.stage.Next.TheVariants.{Run, Plain}
 use Rattle.sr_semi.specs.declared.stage.Stage.{Stage}
 use Rattle.sr_semi.specs.declared.stage.Stage.TheVariants.{Left, Right, LeftAgain, Over}
 use Rattle.sr_semi.specs.declared.stage.Step.{Step}
 use Rattle.sr_semi.specs.Answers.{rows_in, with_keys, IsRight}
-use Rattle.sr_semi.specs.Going.{behind_left, ends_with, is_read, joined, joins, step_of}
-use Rattle.sr_semi.specs.Keys.{all_have, at_most, most_keys, values_at}
-use Rattle.sr_semi.specs.Sides.{Sides, left_place, right_text}
+use Rattle.sr_semi.specs.Going.{behind_left, ends_with, is_read, joined, joined_to, joins, output_in, step_of}
+use Rattle.sr_semi.specs.Keys.{all_have, at_most, is_asked, is_met, most_keys, values_at, with_key}
+use Rattle.sr_semi.specs.Sides.{Sides, left_place, right_place, right_text}
 use Rattle.sr_semi.proofs.Deciding.{values-are-among}
 use Rattle.sr_semi.proofs.JoinedRows.{IsOf, joined-is-answer}
 
--- where no row has a key among none, there is no row
-no-rows : (place : ℕ) (rows : List Row) → all_have place [] rows ≡ true → rows ≡ []
-no-rows place [] all = refl
-no-rows place (row ∷ rows) all = absurd cc
+-- where each row has one of no keys, or Null, nothing is joined
+
+none-with : (place : ℕ) (rows : List Row) (v : Cell) → is_met [] v ≡ true → with_key place rows v ≡ []
+none-with place rows (Num n) h = absurd cc
+none-with place rows (Str s) h = absurd cc
+none-with place [] Null h = refl
+none-with place (r ∷ rows) Null h = none-with place rows Null h
+
+none-joined : (s : Sides) (lefts rights : List Row) → all_have (left_place s) [] lefts ≡ true → joined s lefts rights ≡ []
+none-joined s [] rights all = refl
+none-joined s (l ∷ lefts) rights all =
+    let here = first_so (is_met [] (cell_at l (left_place s))) (all_have (left_place s) [] lefts) all in
+    let others = second_so (is_met [] (cell_at l (left_place s))) (all_have (left_place s) [] lefts) all in
+    flat_map-cons (joined_to s rights) l lefts
+    ∙ (ap (λ (found : List Row). map (λ r. map (output_in s l r) s.outputs) found ++ joined s lefts rights) (none-with (right_place s) rights (cell_at l (left_place s)) here)
+    ∙ none-joined s lefts rights others)
 
 -- keys that are not too many are those that are there
 few-keys : (most : ℕ) (all keys : List Cell) → at_most most all ≡ Some keys → keys ≡ all
@@ -33,11 +46,11 @@ few-keys most all keys e = go (nat_lt most (length all)) e
     go true e = absurd cc
     go false e = cc
 
--- The rows that a stage keeps are those of a part, at the version that it names; each left row has one of the keys, which may be compared.
+-- The rows that a stage keeps are those of a part, at the version that it names; each left row has one of the keys, which may be compared, or Null.
 pub record KnowsLeft (rows : List Row) (place : ℕ) (keys : List Cell) (lefts : List Row) : Type 0 where
   pub lefts_are : lefts ≡ rows
   pub among : all_have place keys lefts ≡ true
-  pub inside : list_all is_inside keys ≡ true
+  pub inside : list_all is_asked keys ≡ true
   pub key : Cell
   pub more : List Cell
   pub some : keys ≡ key ∷ more
@@ -61,7 +74,7 @@ pub record Goes (at : ℕ → Tables) (s : Sides) (q : Query) (left right : Part
   pub stage : Knows at s left right step.stage
 
 module _ (at : ℕ → Tables) (s : Sides) (q : Query) (left right : Part) (join : Join) (is : IsOf s q left right join)
-    (inside : (version : ℕ) → list_all is_inside (values_at (left_place s) (rows_in (at version) left)) ≡ true) where
+    (inside : (version : ℕ) → list_all is_asked (values_at (left_place s) (rows_in (at version) left)) ≡ true) where
   -- rows of both sides at one version
   whole : (version : ℕ) (keys : List Cell) (lefts rights : List Row) → lefts ≡ rows_in (at version) left → rights ≡ with_keys s keys (rows_in (at version) right)
       → all_have (left_place s) keys lefts ≡ true → joined s lefts rights ≡ rows_of q (at version)
@@ -85,7 +98,7 @@ module _ (at : ℕ → Tables) (s : Sides) (q : Query) (left right : Part) (join
       let all : all_have (left_place s) [] rows ≡ true = ap (λ ks. all_have (left_place s) ks rows) none ∙ values-are-among (left_place s) rows in
       record {
         next =
-            sym (ap (λ ls. joined s ls (with_keys s [] (rows_in (at version) right))) (no-rows (left_place s) rows all))
+            sym (none-joined s rows (with_keys s [] (rows_in (at version) right)) all)
             ∙ whole version [] rows (with_keys s [] (rows_in (at version) right)) lefts-are refl all;
         stage = tt;
       }
@@ -94,7 +107,7 @@ module _ (at : ℕ → Tables) (s : Sides) (q : Query) (left right : Part) (join
       if-read (is_read (right_text s.right (k ∷ keys))) version (k ∷ keys) rows (record {
         lefts_are = lefts-are;
         among = ap (λ ks. all_have (left_place s) ks rows) are ∙ values-are-among (left_place s) rows;
-        inside = ap (list_all is_inside) (are ∙ ap (values_at (left_place s)) lefts-are) ∙ inside version;
+        inside = ap (list_all is_asked) (are ∙ ap (values_at (left_place s)) lefts-are) ∙ inside version;
         key = k;
         more = keys;
         some = refl;

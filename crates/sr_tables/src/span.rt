@@ -4,7 +4,8 @@ ghost use Rattle.std.specs.Option.{option_copied};
 ghost use Rattle.sr_cell.specs.declared.cell.Cell.{Cell as TheCell};
 ghost use Rattle.sr_cell.specs.Cells.{Row as TheRow, cell_at};
 ghost use Rattle.sr_cell.specs.Columns.{fits_columns};
-ghost use Rattle.sr_model.specs.Conditions.{passes, is_true, all_true};
+ghost use Rattle.sr_model.specs.Conditions.{passes, is_true};
+ghost use Rattle.sr_model.specs.Sides.{all_true};
 ghost use Rattle.sr_model.specs.Statements.{meets};
 ghost use Rattle.sr_query.specs.Binding.{cond_of, compared};
 ghost use Rattle.sr_query.specs.Meant.{meant, members, test_meant};
@@ -22,7 +23,7 @@ fn of_kind(cell: &Cell, kind: Kind) -> Option<&Cell>
     ensures { option_copied result ≡ (if is_of kind cell.now then Some cell.now else None) }
 {
     match (kind, cell) {
-        (Kind::Num, Cell::Num(_)) | (Kind::Str, Cell::Str(_)) => Some(cell),
+        (Kind::Num, Cell::Num(_)) | (Kind::Str, Cell::Str(_)) | (_, Cell::Null) => Some(cell),
         _ => None,
     }
 }
@@ -53,7 +54,7 @@ fn low_tested(test: &Test, kind: Kind) -> Option<&Cell>
     match test {
         Test::Compared(op, value) => low_compared(*op, value, kind),
         Test::Between(low, _) => Some(low),
-        Test::OneOf(_) | Test::Prefix(_) => None,
+        Test::OneOf(_) | Test::Prefix(_) | Test::IsNull => None,
     }
 }
 
@@ -63,7 +64,7 @@ fn high_tested(test: &Test, kind: Kind) -> Option<&Cell>
     match test {
         Test::Compared(op, value) => high_compared(*op, value, kind),
         Test::Between(_, high) => Some(high),
-        Test::OneOf(_) | Test::Prefix(_) => None,
+        Test::OneOf(_) | Test::Prefix(_) | Test::IsNull => None,
     }
 }
 

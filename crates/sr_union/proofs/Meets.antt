@@ -63,10 +63,10 @@ rect_meet-are [] given (s ∷ r) q f g h k = absurd (grind arith)
 rect_meet-are (c ∷ cs) given [] q f g h k = absurd (grind arith)
 rect_meet-are (c ∷ cs) given (s ∷ r) [] f g h k = tt
 rect_meet-are (c ∷ cs) given (s ∷ r) (t ∷ q) f g h k =
-    go (meet s t) (rect_meet r q) (meet-fits c.kind c.lo c.hi s t (grind arith) (grind arith)) (λ v e. meet-cut c.kind c.lo c.hi s t v e)
+    go (meet s t) (rect_meet r q) (meet-fits c.kind c.lo c.hi c.nullable s t (grind arith) (grind arith)) (λ v e. meet-cut c.kind c.lo c.hi c.nullable s t v e)
     (rect_meet-are cs (others given) r q (grind arith) (grind arith) h.1 k.1)
   where
-    go : (m : Option Span) (n : Option Rect) → maybe_fits c.kind c.lo c.hi m ≡ true → ((v : Cell) → maybe_cut c.kind c.lo c.hi m v ≡ true → (has_cut c.kind c.lo c.hi s v || has_cut c.kind c.lo c.hi t v) ≡ true)
+    go : (m : Option Span) (n : Option Rect) → maybe_fits c.kind c.lo c.hi c.nullable m ≡ true → ((v : Cell) → maybe_cut c.kind c.lo c.hi c.nullable m v ≡ true → (has_cut c.kind c.lo c.hi c.nullable s v || has_cut c.kind c.lo c.hi c.nullable t v) ≡ true)
         → AreCutFrom cs (others given) (option_to_list n) → AreCutFrom (c ∷ cs) given (option_to_list (with_first m n))
     go None n e x y = tt
     go (Some m) None e x y = tt

@@ -9,7 +9,7 @@ use Rattle.sr_cell.specs.declared.table.Column.{Column}
 use Rattle.sr_cell.specs.Cells.{Row}
 use Rattle.sr_box.specs.Points.{Rect, rect_fits, in_rect, in_any}
 use Rattle.sr_union.specs.Pieces.{meets, rect_minus, minus_one, minus_each, minus_all, IsWithin, HasOutside}
-use Rattle.sr_union.specs.Grid.{have_first}
+use Rattle.sr_box.specs.Corners.{have_first}
 use Rattle.sr_union.specs.Search.{from_met, is_nothing, is_covered, is_done, todos, steps, steps_of}
 use Rattle.sr_union.proofs.Times.{minus_all-times}
 use Rattle.sr_union.proofs.Among.{rect_minus-are}
@@ -92,19 +92,19 @@ nothing-not : (rs : List Rect) → is_nothing rs ≡ false → rs ≡ [] → ⊥
 nothing-not [] h e = absurd (cc)
 nothing-not (r ∷ rs) h e = absurd (cc)
 
-fit_left : (cs : List Column) (r : Rect) (qs : List Rect) → rect_fits cs r ≡ true → list_all (rect_fits cs) qs ≡ true → list_all (rect_fits cs) (minus_all cs (r ∷ []) qs) ≡ true
-fit_left cs r qs f g = subst (λ all. list_all (rect_fits cs) (minus_all cs (r ∷ []) all) ≡ true) (take_all (length qs) qs (omega arith))
-    (are_fit cs ((r ∷ []) ++ qs) (minus_all cs (r ∷ []) (take (length qs) qs)) (left_are cs (r ∷ []) qs (length qs) (grind (arith, f)) g))
+fit_left : (cs : List Column) (r : Rect) (qs : List Rect) → have_first cs ≡ true → rect_fits cs r ≡ true → list_all (rect_fits cs) qs ≡ true → list_all (rect_fits cs) (minus_all cs (r ∷ []) qs) ≡ true
+fit_left cs r qs d f g = subst (λ all. list_all (rect_fits cs) (minus_all cs (r ∷ []) all) ≡ true) (take_all (length qs) qs (omega arith))
+    (are_fit cs ((r ∷ []) ++ qs) (minus_all cs (r ∷ []) (take (length qs) qs)) (left_are cs (r ∷ []) qs (length qs) d (grind (arith, f)) g))
 
 pub covered-within : (cs : List Column) (r : Rect) (qs : List Rect) → have_first cs ≡ true → rect_fits cs r ≡ true → list_all (rect_fits cs) qs ≡ true
     → is_covered cs qs r ≡ true → IsWithin cs (r ∷ []) qs
 covered-within cs r qs d f g h =
-    (within_from cs (r ∷ []) qs (minus_all cs (r ∷ []) qs) d (λ p e. minus_all-times cs (r ∷ []) qs p g e) (fit_left cs r qs f g)).0 (nothing-is (minus_all cs (r ∷ []) qs) h)
+    (within_from cs (r ∷ []) qs (minus_all cs (r ∷ []) qs) d (λ p e. minus_all-times cs (r ∷ []) qs p g e) (fit_left cs r qs d f g)).0 (nothing-is (minus_all cs (r ∷ []) qs) h)
 
 pub covered-outside : (cs : List Column) (r : Rect) (qs : List Rect) → have_first cs ≡ true → rect_fits cs r ≡ true → list_all (rect_fits cs) qs ≡ true
     → is_covered cs qs r ≡ false → HasOutside cs (r ∷ []) qs
 covered-outside cs r qs d f g h =
-    outside_from cs (r ∷ []) qs (minus_all cs (r ∷ []) qs) d (λ p e. minus_all-times cs (r ∷ []) qs p g e) (fit_left cs r qs f g) (nothing-not (minus_all cs (r ∷ []) qs) h)
+    outside_from cs (r ∷ []) qs (minus_all cs (r ∷ []) qs) d (λ p e. minus_all-times cs (r ∷ []) qs p g e) (fit_left cs r qs d f g) (nothing-not (minus_all cs (r ∷ []) qs) h)
 
 pub fits_at : (cs : List Column) (qs : List Rect) (i : ℕ) (d : Rect) → list_all (rect_fits cs) qs ≡ true → i < length qs → rect_fits cs (slice_index_or qs i d) ≡ true
 fits_at cs [] i d f h = absurd (omega arith)
@@ -172,16 +172,16 @@ todos_fit : (cs : List Column) (from : ℕ) (pieces : List Rect) → list_all (r
 todos_fit cs from [] f = refl
 todos_fit cs from (r ∷ pieces) f = let ih = todos_fit cs from pieces (grind (arith, f)) in grind (arith, f, ih)
 
-pieces_fit : (cs : List Column) (r q : Rect) → rect_fits cs r ≡ true → rect_fits cs q ≡ true → list_all (rect_fits cs) (rect_minus cs r q) ≡ true
-pieces_fit cs r q f g =
+pieces_fit : (cs : List Column) (r q : Rect) → have_first cs ≡ true → rect_fits cs r ≡ true → rect_fits cs q ≡ true → list_all (rect_fits cs) (rect_minus cs r q) ≡ true
+pieces_fit cs r q d f g =
     let are = are_part cs [] (r ∷ q ∷ []) [] (grind (arith, f, g)) in
-    are_fit cs (r ∷ q ∷ []) (rect_minus cs r q) (rect_minus-are cs (r ∷ q ∷ []) r q f g are.1 are.2.1)
+    are_fit cs (r ∷ q ∷ []) (rect_minus cs r q) (rect_minus-are cs (r ∷ q ∷ []) r q d f g are.1 are.2.1)
 
-pub goes_on_fits : (cs : List Column) (todo left next : List Todo) (t : Todo) (from : ℕ) (q : Rect) (pieces : List Rect) → todo ≡ left ++ t ∷ [] → list_all (λ (t : Todo). rect_fits cs t.rect) todo ≡ true
+pub goes_on_fits : (cs : List Column) (todo left next : List Todo) (t : Todo) (from : ℕ) (q : Rect) (pieces : List Rect) → have_first cs ≡ true → todo ≡ left ++ t ∷ [] → list_all (λ (t : Todo). rect_fits cs t.rect) todo ≡ true
     → rect_fits cs q ≡ true → pieces ≡ rect_minus cs t.rect q → next ≡ left ++ todos from pieces → list_all (λ (t : Todo). rect_fits cs t.rect) next ≡ true
-goes_on_fits cs todo left next t from q pieces e f g p n =
+goes_on_fits cs todo left next t from q pieces d e f g p n =
     let x = popped_fits cs todo left t e f in
-    let y = todos_fit cs from pieces (subst (λ ps. list_all (rect_fits cs) ps ≡ true) (sym p) (pieces_fit cs t.rect q x.1 g)) in
+    let y = todos_fit cs from pieces (subst (λ ps. list_all (rect_fits cs) ps ≡ true) (sym p) (pieces_fit cs t.rect q d x.1 g)) in
     ap (list_all (λ (t : Todo). rect_fits cs t.rect)) n ∙ (list_all-append (λ (t : Todo). rect_fits cs t.rect) left (todos from pieces) ∙ both (list_all (λ (t : Todo). rect_fits cs t.rect) left) (list_all (λ (t : Todo). rect_fits cs t.rect) (todos from pieces)) x.0 y)
   where
     both : (a b : Bool) → a ≡ true → b ≡ true → (a && b) ≡ true

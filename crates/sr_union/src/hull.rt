@@ -38,8 +38,7 @@ impl Bound {
                 lo: self.lo.min(*lo),
                 hi: self.hi.max(*hi),
             },
-            Span::Full => self.all(),
-            Span::Strs { lo: _, hi: _ } => self.all(),
+            Span::Full | Span::Strs { lo: _, hi: _ } | Span::Null => self.all(),
         }
     }
 
@@ -91,7 +90,7 @@ impl Bound {
                 let number = *number;
                 self.lo <= number && number <= self.hi
             }
-            Cell::Str(_) => true,
+            Cell::Str(_) | Cell::Null => true,
         }
     }
 }

@@ -3,7 +3,8 @@ ghost use Rattle.std.specs.Prelude.{◌≡◌, ℕ, ◌<◌, ◌≤◌, true, fa
 ghost use Rattle.std.specs.List.{list_all};
 ghost use Rattle.sr_box.specs.Points.{rect_fits};
 ghost use Rattle.sr_union.specs.Pieces.{rect_minus, IsWithin, HasOutside};
-ghost use Rattle.sr_union.specs.Grid.{have_first, all_inner};
+ghost use Rattle.sr_box.specs.Corners.{have_first};
+ghost use Rattle.sr_union.specs.Grid.{all_inner};
 ghost use Rattle.sr_union.specs.Search.{from_met, is_covered, todos};
 
 use crate::minus::{cut_rect, rects_meet};

@@ -30,6 +30,6 @@ loop-next-preserved c =
     record {
       same = goes_on c.args.columns.now c.args.others.now c.loop-next.todo c.pop.new.self c.push_pieces.new.todo c.in-Some.next c.in-Some-first_met.at q pieces
           c.in-Some.ensures.taken c.in-Some-first_met.ensures.within c.in-Some-first_met.ensures.met c.index-others-at.is refl next ∙ c.loop-next.invariant.same;
-      fit = goes_on_fits c.args.columns.now c.loop-next.todo c.pop.new.self c.push_pieces.new.todo c.in-Some.next (c.in-Some-first_met.at + 1) q pieces
+      fit = goes_on_fits c.args.columns.now c.loop-next.todo c.pop.new.self c.push_pieces.new.todo c.in-Some.next (c.in-Some-first_met.at + 1) q pieces c.requires.first
           c.in-Some.ensures.taken c.loop-next.invariant.fit fit refl next;
     }

@@ -28,6 +28,7 @@ fn know_cell(cell: &Cell)
     match cell {
         Cell::Num(number) => know_number(*number),
         Cell::Str(text) => know_utf8(text.as_str()),
+        Cell::Null => {}
     }
 }
 
@@ -54,7 +55,7 @@ fn know_span(span: &Span)
     ensures { IsTrue (has_span_bytes span.now) }
 {
     match span {
-        Span::Full => {}
+        Span::Full | Span::Null => {}
         Span::Nums { lo, hi } => {
             know_number(*lo);
             know_number(*hi);

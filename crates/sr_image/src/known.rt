@@ -55,7 +55,7 @@ fn know_span(span: &Span)
     ensures { IsTrue (has_span_bytes span.now) }
 {
     match span {
-        Span::Full | Span::Null => {}
+        Span::Full => {}
         Span::Nums { lo, hi } => {
             know_number(*lo);
             know_number(*hi);
@@ -65,6 +65,7 @@ fn know_span(span: &Span)
             know_bytes(hi.as_slice());
         }
         Span::Strs { lo, hi: None } => know_bytes(lo.as_slice()),
+        Span::Null => {}
     }
 }
 

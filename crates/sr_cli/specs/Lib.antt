@@ -4,6 +4,7 @@ pub mod Errors
 pub mod Explain
 pub mod Files
 pub mod Generate
+pub mod Image
 pub mod Kinds
 pub mod Leaves
 pub mod Replay

@@ -1,5 +1,5 @@
 //! The commands, with their statuses and error lines: replays a script, explains a query behind it, serves tables, runs a client of a
-//! server, of each kind, or makes a script.
+//! server, of each kind, saves what it holds or starts from that, or makes a script.
 #![tactic(auto)]
 
 mod client;
@@ -12,5 +12,7 @@ mod loads;
 mod replay;
 mod report;
 pub mod run;
+mod save;
 mod serve;
 mod stop;
+mod warm;

@@ -1,0 +1,62 @@
+use Rattle.std.proofs.Common.{Err, inl, sym, ap, subst, ◌∙◌}
+use Rattle.std.proofs.lemmas.Result.{IfErr-weaker}
+use Rattle.sr_cli.specs.Client.{AreFiles, files_of}
+use Rattle.sr_cli.specs.Image.{SaveStopsOver}
+use Rattle.sr_cli.specs.Leaves.{NotRead}
+use Rattle.sr_cli.specs.declared.stop.Stop.TheVariants.{Refused}
+use Rattle.sr_cli.proofs.Endings.{one_stop}
+use Rattle.sr_cli.proofs.ImageLemmas.{counts-saved, stops-over}
+use Rattle.sr_cli.proofs.LeavesLemmas.{counts-unread, err-of, read-failed, unread-as}
+use Rattle.sr_cli.proofs.save.save_files.Goals as goal
+
+pub save_read-requires-clause-files : goal.save_read-requires-clause-files
+save_read-requires-clause-files g c = record {
+  are = rw (sym c.read_files.ensures.stays.held_stays) at c.in-Ok.ensures.read;
+  schema = c.in-Ok.ensures.schema;
+  script = c.in-Ok.ensures.script;
+}
+
+pub returns-in-Ok-clause-whole : goal.returns-in-Ok-clause-whole
+returns-in-Ok-clause-whole g c =
+    rw (c.read_files.ensures.stays.held_stays, c.read_files.ensures.stays.linking_stays, c.read_files.ensures.stays.writing_stays) at c.save_read.ensures.whole
+
+pub returns-in-Ok-clause-stopped : goal.returns-in-Ok-clause-stopped
+returns-in-Ok-clause-stopped g c =
+    let stopped = rw (c.read_files.ensures.stays.held_stays, c.read_files.ensures.stays.linking_stays, c.read_files.ensures.stays.writing_stays) at c.save_read.ensures.stopped in
+    IfErr-weaker c.save_read.result _ _
+    (stops-over (g.H.Outside.held c.args.host.now) c.args.words.now (g.H.Outside.linking c.args.host.now) (g.H.Outside.linking c.save_read.new.host)
+    (g.H.Outside.writing c.args.host.now) (g.H.Outside.writing c.save_read.new.host))
+    stopped
+
+pub returns-in-Ok-clause-counts : goal.returns-in-Ok-clause-counts
+returns-in-Ok-clause-counts g c =
+    counts-saved _ g.H.Outside.reading g.H.Outside.writing g.H.Outside.linking (g.H.Outside.held c.read_files.new.host) c.args.words.now c.args.host.now c.read_files.new.host c.save_read.new.host
+    c.in-Ok.ensures.ok_keeps_faults c.save_read.ensures.stays.reading_stays c.read_files.ensures.stays.writing_stays c.read_files.ensures.stays.linking_stays c.save_read.result c.save_read.ensures.stopped
+
+pub returns-in-Ok-clause-stays : goal.returns-in-Ok-clause-stays
+returns-in-Ok-clause-stays g c = record {
+  stays_steady = λ s. c.save_read.ensures.stays.stays_steady (c.read_files.ensures.stays.stays_steady s);
+  held_stays = c.save_read.ensures.stays.held_stays ∙ c.read_files.ensures.stays.held_stays;
+  complaints_stay = c.save_read.ensures.stays.complaints_stay ∙ c.read_files.ensures.stays.complaints_stay;
+}
+
+pub returns-in-Err-clause-stopped : goal.returns-in-Err-clause-stopped
+returns-in-Err-clause-stopped g c =
+    rw c.unread.ensures
+    (unread-as (λ r. SaveStopsOver (g.H.Outside.held c.args.host.now) c.args.words.now (g.H.Outside.reading c.read_files.new.host).left
+    (g.H.Outside.linking c.args.host.now) (g.H.Outside.linking c.read_files.new.host) (g.H.Outside.writing c.args.host.now) (g.H.Outside.writing c.read_files.new.host) (Refused r))
+    c.in-Err.fault (λ is. tt) (λ is. inl (record { linking = c.read_files.ensures.stays.linking_stays; writing = c.read_files.ensures.stays.writing_stays }))
+    (λ is. (subst (NotRead (g.H.Outside.held c.args.host.now) (files_of c.args.words.now) (g.H.Outside.reading c.args.host.now) (g.H.Outside.reading c.read_files.new.host)) is c.in-Err.ensures.not_read).0))
+
+pub returns-in-Err-clause-counts : goal.returns-in-Err-clause-counts
+returns-in-Err-clause-counts g c =
+    rw c.unread.ensures
+    (counts-unread _ g.H.Outside.held g.H.Outside.reading g.H.Outside.writing g.H.Outside.linking g.H.Outside.complaints g.H.Outside.IsSteady (files_of c.args.words.now) (g.H.Outside.held c.args.host.now) c.args.host.now c.read_files.new.host
+    c.in-Err.fault c.in-Err.ensures.not_read c.read_files.ensures.stays.writing_stays c.read_files.ensures.stays.linking_stays)
+
+pub returns-in-Ok-clause-steady_reads : goal.returns-in-Ok-clause-steady_reads
+returns-in-Ok-clause-steady_reads g c = λ steady failed schema script are. absurd (err-of _ c.save_read.result _ c.save_read.ensures.stopped failed)
+
+pub returns-in-Err-clause-steady_reads : goal.returns-in-Err-clause-steady_reads
+returns-in-Err-clause-steady_reads g c = λ steady failed schema script are.
+    c.in-Err.ensures.steady steady (ap Err (read-failed c.in-Err.fault (ap Err (sym c.unread.ensures ∙ one_stop _ _ failed)))) schema script are

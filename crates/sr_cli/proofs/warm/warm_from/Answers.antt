@@ -1,0 +1,8 @@
+use Rattle.std.proofs.Common.{inl}
+use Rattle.sr_cli.proofs.warm.warm_from.Goals as goal
+
+pub returns-in-Ok-clause-whole : goal.returns-in-Ok-clause-whole
+returns-in-Ok-clause-whole g c = λ bytes ahead read follows. c.warm_begun.ensures.whole bytes ahead (c.in-Ok.ensures.begins bytes read) follows
+
+pub returns-in-Ok-clause-stopped : goal.returns-in-Ok-clause-stopped
+returns-in-Ok-clause-stopped g c = λ bytes ahead read follows. c.warm_begun.ensures.stopped bytes ahead (c.in-Ok.ensures.begins bytes read) follows

@@ -133,8 +133,8 @@ module _ (H : Type 0) (held : H → List ℕ → Option (List ℕ)) (reading : H
         }
 
     module _ (old mid new : H) (silent : complaints mid ≡ complaints old) (stays : OnlyComplains H reading writing linking held IsSteady mid new) where
-      ends : (status : ℕ) → IsEnd status → (IsSteady old → (schema script bytes : List ℕ) → AreWarmHeld (held old) words schema script bytes → ¬ (status ≡ 3)) → WarmsBy (held old) words (reading mid) (linking old) (linking mid) (writing old) (writing mid) (complaints old) (complaints new) status → WarmEnds old new status
-      ends status only reads comes = record {
+      warm-ends : (status : ℕ) → IsEnd status → (IsSteady old → (schema script bytes : List ℕ) → AreWarmHeld (held old) words schema script bytes → ¬ (status ≡ 3)) → WarmsBy (held old) words (reading mid) (linking old) (linking mid) (writing old) (writing mid) (complaints old) (complaints new) status → WarmEnds old new status
+      warm-ends status only reads comes = record {
         only = inl only;
         no_image = λ is. absurd (never-13 status only is);
         comes = moved mid new stays (λ r l w. WarmsBy (held old) words r (linking old) l (writing old) w (complaints old) (complaints new) status) comes;
@@ -146,25 +146,25 @@ module _ (H : Type 0) (held : H → List ℕ → Option (List ℕ)) (reading : H
       pub warms-spoiled : (status : ℕ) (fault : WireFault) → Names 8 (spoiled_text fault) status (complaints mid) (complaints new) → Warmed (held old) words (linking old) (linking mid) (writing old) (writing mid) (Spoiled fault) → WarmEnds old new status
       warms-spoiled status fault named warmed =
           let which = named-status (spoiled_text fault) status (complaints mid) (complaints new) named in
-          ends status (frames-end status which) (λ steady schema script bytes are is. omega (arith, which, is))
+          warm-ends status (frames-end status which) (λ steady schema script bytes are is. omega (arith, which, is))
           (comes-spoiled (held old) words.client (Warmed (held old) words (linking old) (linking mid) (writing old) (writing mid)) (WarmedInPart (held old) words (linking old) (linking mid) (writing old) (writing mid))
           (WarmedOff (held old) words (linking old) (linking mid) (writing old) (writing mid)) (SomeTooLong (held old) (reading mid).left (names_of words)) (complaints old) (complaints mid) (complaints new) silent status fault named warmed
           (warmed-off (held old) words (linking old) (linking mid) (writing old) (writing mid) (Spoiled fault) refl warmed))
 
       pub warms-bad : (status : ℕ) (why : BadFrame) → status ≡ 8 → complaints new ≡ complained (bad_text why) (complaints mid) → Warmed (held old) words (linking old) (linking mid) (writing old) (writing mid) (BadMessage why) → WarmEnds old new status
       warms-bad status why is said warmed =
-          ends status (frames-end status (inl is)) (λ steady schema script bytes are three. omega (arith, is, three)) (comes-bad (held old) words.client (Warmed (held old) words (linking old) (linking mid) (writing old) (writing mid)) (WarmedInPart (held old) words (linking old) (linking mid) (writing old) (writing mid))
+          warm-ends status (frames-end status (inl is)) (λ steady schema script bytes are three. omega (arith, is, three)) (comes-bad (held old) words.client (Warmed (held old) words (linking old) (linking mid) (writing old) (writing mid)) (WarmedInPart (held old) words (linking old) (linking mid) (writing old) (writing mid))
           (WarmedOff (held old) words (linking old) (linking mid) (writing old) (writing mid)) (SomeTooLong (held old) (reading mid).left (names_of words)) (complaints old) (complaints mid) (complaints new) silent status why is said warmed)
 
       pub warms-limit : (status : ℕ) → status ≡ 11 → Warmed (held old) words (linking old) (linking mid) (writing old) (writing mid) TooMany → WarmEnds old new status
       warms-limit status is warmed =
-          ends status (inr (inr (inr (inr (inr (inr (inr (inr (inr is))))))))) (λ steady schema script bytes are three. omega (arith, is, three)) (comes-limit (held old) words.client (Warmed (held old) words (linking old) (linking mid) (writing old) (writing mid)) (WarmedInPart (held old) words (linking old) (linking mid) (writing old) (writing mid))
+          warm-ends status (inr (inr (inr (inr (inr (inr (inr (inr (inr is))))))))) (λ steady schema script bytes are three. omega (arith, is, three)) (comes-limit (held old) words.client (Warmed (held old) words (linking old) (linking mid) (writing old) (writing mid)) (WarmedInPart (held old) words (linking old) (linking mid) (writing old) (writing mid))
           (WarmedOff (held old) words (linking old) (linking mid) (writing old) (writing mid)) (SomeTooLong (held old) (reading mid).left (names_of words)) (complaints old) (complaints mid) (complaints new) silent status is warmed)
 
       -- what has a name did nothing
-      nothing : (refusal : Refusal) (status : ℕ) → Reported refusal status (complaints mid) (complaints new) → Counts H reading writing linking old mid (Err refusal) → HasName refusal
+      warm-nothing : (refusal : Refusal) (status : ℕ) → Reported refusal status (complaints mid) (complaints new) → Counts H reading writing linking old mid (Err refusal) → HasName refusal
           → WarmedOff (held old) words (linking old) (linking mid) (writing old) (writing mid)
-      nothing refusal status reported counts named =
+      warm-nothing refusal status reported counts named =
           let none = named-nothing H held reading writing linking complaints IsSteady old mid new refusal status reported counts named in
           inl (record { linking = none.linking_stays; writing = none.writing_stays })
 
@@ -172,14 +172,14 @@ module _ (H : Type 0) (held : H → List ℕ → Option (List ℕ)) (reading : H
           → WarmStopsOver (held old) words (reading mid).left (linking old) (linking mid) (writing old) (writing mid) (Stopped (Refused refusal))
           → (IsSteady old → refusal ≡ Read → (schema script bytes : List ℕ) → ¬ AreWarmHeld (held old) words schema script bytes) → WarmEnds old new status
       warms-refused refusal status reported counts why reads =
-          ends status
+          warm-ends status
           (refused-end (held old) words.client (Warmed (held old) words (linking old) (linking mid) (writing old) (writing mid)) (WarmedInPart (held old) words (linking old) (linking mid) (writing old) (writing mid))
           (WarmedOff (held old) words (linking old) (linking mid) (writing old) (writing mid)) (SomeTooLong (held old) (reading mid).left (names_of words))
-          (complaints old) (complaints mid) (complaints new) silent refusal status reported why (nothing refusal status reported counts))
+          (complaints old) (complaints mid) (complaints new) silent refusal status reported why (warm-nothing refusal status reported counts))
           (λ steady schema script bytes are is. reads steady ((reported-is refusal status (complaints mid) (complaints new) reported).read is) schema script bytes are)
           (comes-refused (held old) words.client (Warmed (held old) words (linking old) (linking mid) (writing old) (writing mid)) (WarmedInPart (held old) words (linking old) (linking mid) (writing old) (writing mid))
           (WarmedOff (held old) words (linking old) (linking mid) (writing old) (writing mid)) (SomeTooLong (held old) (reading mid).left (names_of words))
-          (complaints old) (complaints mid) (complaints new) silent refusal status reported why (nothing refusal status reported counts))
+          (complaints old) (complaints mid) (complaints new) silent refusal status reported why (warm-nothing refusal status reported counts))
 
       pub warms-no-image : (status : ℕ) (fault : ImageFault) → Names 13 (image_text fault) status (complaints mid) (complaints new)
           → IsNoImage (held old) words fault × Untouched (linking old) (linking mid) (writing old) (writing mid) → WarmEnds old new status
@@ -200,7 +200,7 @@ module _ (H : Type 0) (held : H → List ℕ → Option (List ℕ)) (reading : H
             };
           }
       warms-no-image status fault (inr (is, said)) (none, untouched) =
-          ends status (inr (inr (inr (inr (inr (inr (inr (inl is)))))))) (λ steady schema script bytes are three. omega (arith, is, three)) (comes-wanting (held old) words.client (Warmed (held old) words (linking old) (linking mid) (writing old) (writing mid)) (WarmedInPart (held old) words (linking old) (linking mid) (writing old) (writing mid))
+          warm-ends status (inr (inr (inr (inr (inr (inr (inr (inl is)))))))) (λ steady schema script bytes are three. omega (arith, is, three)) (comes-wanting (held old) words.client (Warmed (held old) words (linking old) (linking mid) (writing old) (writing mid)) (WarmedInPart (held old) words (linking old) (linking mid) (writing old) (writing mid))
           (WarmedOff (held old) words (linking old) (linking mid) (writing old) (writing mid)) (SomeTooLong (held old) (reading mid).left (names_of words)) (complaints old) (complaints mid) (complaints new) silent status is (inl untouched))
 
   -- the image was refused, or there was no memory to say so

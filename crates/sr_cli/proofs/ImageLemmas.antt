@@ -13,7 +13,7 @@ use Rattle.sr_cell.specs.declared.table.Table.{Table}
 use Rattle.sr_client.specs.Stands.{StandsFor}
 use Rattle.sr_client.specs.Starting.{start_past}
 use Rattle.sr_client.specs.declared.client.Client.{Client}
-use Rattle.sr_dial.specs.Calls.{Do, Done, text_of}
+use Rattle.sr_dial.specs.Calls.{Do, Done, all_done, text_of}
 use Rattle.sr_dial.specs.Carrying.{spoken}
 use Rattle.sr_dial.specs.Following.{Ahead}
 use Rattle.sr_dial.specs.Known.{Setting, said_by}
@@ -42,10 +42,10 @@ use Rattle.sr_session.specs.Clients as session
 use Rattle.sr_setup.specs.ClientFiles.{script_outside, Refuses}
 use Rattle.sr_setup.specs.declared.client_setup.ClientFault.{ClientFault}
 use Rattle.sr_setup.specs.declared.client_setup.ClientFault.TheVariants as setup
-use Rattle.sr_cli.specs.Client.{AreFiles, CountsStop, IsEnd, IsOutside, IsRefusedCreate, NamedCreate, NamedLine, Untouched, ending_of, stop_of}
+use Rattle.sr_cli.specs.Client.{AreFiles, CountsStop, IsEnd, IsOutside, IsRefusedCreate, NamedCreate, NamedLine, Untouched, ending_of, files_of, stop_of}
 use Rattle.sr_cli.specs.Errors.{bad_text, line_text, setup_text, spoiled_text}
-use Rattle.sr_cli.specs.Image.{Asked, AskedOver, BeginsAs, ComesTo, CountsWarm, CreateDid, EndsQuietly, LeftBy, NamedEnd, OutsideDid, SaveStops, SaveStopsFiles, SaveStopsOver, SavedInPart, SavedOff, Saved, Saves, SavesNothing, SavesOff, SavesOnly, StopsAs, StopsQuietly, WarmStops, WarmStopsFiles, WarmStopsOver, WarmedInPart, WarmedOff, Warmed, Warms, WarmsInPart, WarmsOnly, WarmsUnwritten, WritesAll, WritesOff, WritesPart, Wrote, WroteLeft, bytes_left, end_of_start, has_image, held_image, text_of_start}
-use Rattle.sr_cli.specs.Files.{IsWhatIsHeld}
+use Rattle.sr_cli.specs.Image.{Asked, AskedOver, BeginsAs, ComesTo, CountsWarm, CreateDid, EndsQuietly, LeftBy, NamedEnd, OutsideDid, SaveStops, SaveStopsFiles, SaveStopsOver, SavedInPart, SavedOff, Saved, Saves, SavesNothing, SavesOff, SavesOnly, StopsAs, StopsQuietly, WarmStops, WarmStopsFiles, WarmStopsOver, WarmedInPart, WarmedOff, Warmed, Warms, WarmsInPart, WarmsOff, WarmsOnly, WarmsUnwritten, WritesAll, WritesOff, WritesPart, Wrote, WroteLeft, bytes_left, end_of_start, has_image, held_image, names_of, text_of_start}
+use Rattle.sr_cli.specs.Files.{IsWhatIsHeld, SomeTooLong}
 use Rattle.sr_cli.specs.Kinds.{AsksLines, fault_by}
 use Rattle.sr_cli.specs.Leaves.{DidNothing, Names, Reported}
 use Rattle.sr_cli.specs.declared.report.Refusal.{Refusal}
@@ -56,26 +56,26 @@ use Rattle.sr_cli.specs.declared.warm.WarmStop.{WarmStop}
 use Rattle.sr_cli.specs.declared.warm.WarmStop.TheVariants as warm_stop
 use Rattle.sr_cli.proofs.LeavesLemmas.{HasName, InWant, NamesLine, NamesRefused, Report, reported-is}
 
-or-map : {U D E : Type 0} → (D → E) → U ⊎ D → U ⊎ E
-or-map {U} {D} {E} f (inl u) = inl u
-or-map {U} {D} {E} f (inr d) = inr (f d)
+or-map : (U D E : Type 0) → (D → E) → U ⊎ D → U ⊎ E
+or-map U D E f (inl u) = inl u
+or-map U D E f (inr d) = inr (f d)
 
 -- ---- why a run stops, in other words
 
-pub stops-map : {E F : Ending → Type 0} {P Q W X U V L M : Type 0} {O N : ℕ → ℕ → Type 0} {C D : ℕ → Fault → Type 0}
+pub stops-map : (E F : Ending → Type 0) (P Q W X U V L M : Type 0) (O N : ℕ → ℕ → Type 0) (C D : ℕ → Fault → Type 0)
     → ((e : Ending) → E e → F e) → (P → Q) → (W → X) → (U → V) → (L → M) → ((l p : ℕ) → O l p → N l p) → ((l : ℕ) (f : Fault) → C l f → D l f)
     → (why : Stop) → StopsAs E P W U L O C why → StopsAs F Q X V M N D why
-stops-map {E} {F} {P} {Q} {W} {X} {U} {V} {L} {M} {O} {N} {C} {D} ended part off unread long outside create (stop.Refused refusal.Read) holds = unread holds
-stops-map {E} {F} {P} {Q} {W} {X} {U} {V} {L} {M} {O} {N} {C} {D} ended part off unread long outside create (stop.Refused refusal.Write) holds = part holds
-stops-map {E} {F} {P} {Q} {W} {X} {U} {V} {L} {M} {O} {N} {C} {D} ended part off unread long outside create (stop.Refused refusal.Link) holds = ended Faulty holds
-stops-map {E} {F} {P} {Q} {W} {X} {U} {V} {L} {M} {O} {N} {C} {D} ended part off unread long outside create (stop.Refused refusal.Memory) holds = off holds
-stops-map {E} {F} {P} {Q} {W} {X} {U} {V} {L} {M} {O} {N} {C} {D} ended part off unread long outside create (stop.Refused refusal.TooLong) holds = long holds
-stops-map {E} {F} {P} {Q} {W} {X} {U} {V} {L} {M} {O} {N} {C} {D} ended part off unread long outside create (stop.Refused (refusal.Line line place)) holds = outside line place holds
-stops-map {E} {F} {P} {Q} {W} {X} {U} {V} {L} {M} {O} {N} {C} {D} ended part off unread long outside create (stop.Refused (refusal.Setup line fault)) holds = create line fault holds
-stops-map {E} {F} {P} {Q} {W} {X} {U} {V} {L} {M} {O} {N} {C} {D} ended part off unread long outside create (stop.Refused (refusal.Load table fault)) holds = holds
-stops-map {E} {F} {P} {Q} {W} {X} {U} {V} {L} {M} {O} {N} {C} {D} ended part off unread long outside create (stop.Spoiled fault) holds = ended (Spoiled fault) holds
-stops-map {E} {F} {P} {Q} {W} {X} {U} {V} {L} {M} {O} {N} {C} {D} ended part off unread long outside create (stop.Bad why) holds = ended (BadMessage why) holds
-stops-map {E} {F} {P} {Q} {W} {X} {U} {V} {L} {M} {O} {N} {C} {D} ended part off unread long outside create stop.Limit holds = ended TooMany holds
+stops-map E F P Q W X U V L M O N C D ended part off unread long outside create (stop.Refused refusal.Read) holds = unread holds
+stops-map E F P Q W X U V L M O N C D ended part off unread long outside create (stop.Refused refusal.Write) holds = part holds
+stops-map E F P Q W X U V L M O N C D ended part off unread long outside create (stop.Refused refusal.Link) holds = ended Faulty holds
+stops-map E F P Q W X U V L M O N C D ended part off unread long outside create (stop.Refused refusal.Memory) holds = off holds
+stops-map E F P Q W X U V L M O N C D ended part off unread long outside create (stop.Refused refusal.TooLong) holds = long holds
+stops-map E F P Q W X U V L M O N C D ended part off unread long outside create (stop.Refused (refusal.Line line place)) holds = outside line place holds
+stops-map E F P Q W X U V L M O N C D ended part off unread long outside create (stop.Refused (refusal.Setup line fault)) holds = create line fault holds
+stops-map E F P Q W X U V L M O N C D ended part off unread long outside create (stop.Refused (refusal.Load table fault)) holds = holds
+stops-map E F P Q W X U V L M O N C D ended part off unread long outside create (stop.Spoiled fault) holds = ended (Spoiled fault) holds
+stops-map E F P Q W X U V L M O N C D ended part off unread long outside create (stop.Bad why) holds = ended (BadMessage why) holds
+stops-map E F P Q W X U V L M O N C D ended part off unread long outside create stop.Limit holds = ended TooMany holds
 
 -- ---- the status
 
@@ -274,7 +274,7 @@ pub saves-nothing : (words : ClientWords) (tables : List Table) (ahead : Ahead) 
 saves-nothing words tables ahead old new before after part = record {
   middle = after;
   ran = part;
-  none = quiet-off (setting_of (new_end words.id tables words.limits false false)) _ before after refl part.ran.written part.ran.write_faults;
+  none = quiet-off {C = End} (setting_of (new_end words.id tables words.limits false false)) (all_done part.ran.calls) before after refl part.ran.written part.ran.write_faults;
 }
 
 -- a run that ended so did no more than one that was broken off
@@ -288,10 +288,16 @@ saves-in-part words tables ahead ending old new before after each none saves = r
 
 module _ (words : ClientWords) (tables : List Table) (ahead : Ahead) (ending : Ending) (left : End) (old new : Linking) (before mid after : Writing) (by : LeftBy words tables ahead ending left old new before mid) where
   still : WritesAll [] before mid
-  still = quiet-writes (setting_of (new_end words.id tables words.limits false false)) _ ending before mid refl by.ran.ran.run.ran.writes
+  still =
+      let run = by.ran.ran.run.ran in
+      quiet-writes {C = End} (setting_of (new_end words.id tables words.limits false false)) (all_done (run.earlier ++ run.last ∷ [])) ending before mid refl run.writes
 
   pub never-unwritten : ending ≢ Unwritten
-  never-unwritten is = let wrong = (subst (λ e. WritesAs false e _ before mid) is by.ran.ran.run.ran.writes).0 in cc
+  never-unwritten is =
+      let run = by.ran.ran.run.ran in
+      let texts = flat_map (said_by {C = End} (setting_of (new_end words.id tables words.limits false false))) (all_done (run.earlier ++ run.last ∷ [])) in
+      let wrote : WritesAs false Unwritten texts before mid = subst (λ e. WritesAs false e texts before mid) is run.writes in
+      let wrong : false ≡ true = wrote.0 in cc
 
   module _ (Writes : List ℕ → Writing → Writing → Type 0) (behind : (bytes : List ℕ) → Writes bytes mid after → Writes bytes before after) where
     of-left : (f : List ℕ → List ℕ) → Writes (f (image_bytes tables (held_image left.client))) mid after → Writes (f (image_bytes tables (held_image by.ran.left.client))) before after
@@ -306,7 +312,10 @@ module _ (words : ClientWords) (tables : List Table) (ahead : Ahead) (ending : E
       (record { middle = mid; ran = by.ran; image = of-left WritesAll (λ bytes. writes-all-behind before mid after bytes still) (λ bytes. if has_image ending then bytes else []) wrote })
 
   pub stops-of : (why : Stop) → StopsQuietly tables left ending mid after why → SaveStops words tables ahead old new before after why
-  stops-of = stops-map saves-of (saves-only WritesPart (λ bytes. writes-part-behind before mid after bytes still))
+  stops-of = stops-map (EndsQuietly tables left ending mid after) (λ e. Saves words tables ahead e old new before after)
+      ((has_image ending ≡ true) × WritesPart (image_bytes tables (held_image left.client)) mid after) (SavesOnly WritesPart words tables ahead old new before after)
+      ((has_image ending ≡ true) × WritesOff (image_bytes tables (held_image left.client)) mid after) (Untouched old new before after ⊎ SavesOff words tables ahead old new before after)
+      ⊥ ⊥ ⊥ ⊥ (λ line place. ⊥) (λ line place. ⊥) (λ line fault. ⊥) (λ line fault. ⊥) saves-of (saves-only WritesPart (λ bytes. writes-part-behind before mid after bytes still))
       (λ off. inr (inr (saves-only WritesOff (λ bytes. writes-off-behind before mid after bytes still) off))) (λ none. none) (λ none. none) (λ line place none. none) (λ line fault none. none)
 
 -- an image is written behind a run that ended so, or none is
@@ -345,26 +354,32 @@ module _ (held : List ℕ → Option (List ℕ)) (words : ClientWords) where
   pub asked-stops : (schema script : List ℕ) → AreFiles held words schema script → (tables : List Table) (ahead : Ahead) → AsksLines words.id schema script tables ahead → (old new : Linking) (before after : Writing)
       → (why : Stop) → SaveStops words tables ahead old new before after why → SaveStopsFiles held words old new before after why
   asked-stops schema script files tables ahead asks old new before after =
-      stops-map (λ e did. asked did) asked (or-map asked) (λ none. none) (λ none. none) (λ line place none. absurd none) (λ line fault none. absurd none)
+      stops-map (λ e. Saves words tables ahead e old new before after) (Saved held words old new before after)
+      (SavesOnly WritesPart words tables ahead old new before after) (SavedInPart held words old new before after)
+      (Untouched old new before after ⊎ SavesOff words tables ahead old new before after) (SavedOff held words old new before after)
+      ⊥ ⊥ ⊥ ⊥ (λ line place. ⊥) (OutsideDid held words old new before after) (λ line fault. ⊥) (CreateDid held words old new before after)
+      (λ e. asked (λ t a. Saves words t a e old new before after)) (asked (λ t a. SavesOnly WritesPart words t a old new before after))
+      (or-map (Untouched old new before after) (SavesOff words tables ahead old new before after) (Asked held words (λ t a. SavesOff words t a old new before after)) (asked (λ t a. SavesOff words t a old new before after)))
+      (λ none. none) (λ none. none) (λ line place none. absurd none) (λ line fault none. absurd none)
     where
-      asked : {D : List Table → Ahead → Type 0} → D tables ahead → Asked held words D
-      asked {D} did = record { schema = schema; script = script; files = files; tables = tables; ahead = ahead; asks = asks; did = did }
+      asked : (D : List Table → Ahead → Type 0) → D tables ahead → Asked held words D
+      asked D did = record { schema = schema; script = script; files = files; tables = tables; ahead = ahead; asks = asks; did = did }
 
 -- ---- files that are not set up
 
-pub unset-as : {E : Ending → Type 0} {P X : Type 0} (held : List ℕ → Option (List ℕ)) (words : ClientWords) (schema script : List ℕ) (no : No ClientFault) (l : Linking) (w : Writing) → AreFiles held words schema script
+pub unset-as : (E : Ending → Type 0) (P X : Type 0) (held : List ℕ → Option (List ℕ)) (words : ClientWords) (schema script : List ℕ) (no : No ClientFault) (l : Linking) (w : Writing) → AreFiles held words schema script
     → ((line place : ℕ) → no ≡ NoBut (setup.Line line place) → script_outside (fault_by words) schema script ≡ Some (record { line = line; place = place }))
     → ((line : ℕ) (why : Fault) → no ≡ NoBut (setup.Create line why) → Refuses (fault_by words) schema script line why)
     → StopsAs E P (Untouched l l w w ⊎ X) ⊥ ⊥ (OutsideDid held words l l w w) (CreateDid held words l l w w) (stop_of no)
-unset-as {E} {P} {X} held words schema script Wanting l w files line create = inl (record { linking = refl; writing = refl })
-unset-as {E} {P} {X} held words schema script (NoBut (setup.Line at place)) l w files line create =
+unset-as E P X held words schema script Wanting l w files line create = inl (record { linking = refl; writing = refl })
+unset-as E P X held words schema script (NoBut (setup.Line at place)) l w files line create =
     (record { schema = schema; script = script; files = files; first = line at place refl }, record { linking = refl; writing = refl })
-unset-as {E} {P} {X} held words schema script (NoBut (setup.Create at why)) l w files line create =
+unset-as E P X held words schema script (NoBut (setup.Create at why)) l w files line create =
     (record { schema = schema; script = script; files = files; refuses = create at why refl }, record { linking = refl; writing = refl })
 
 -- ---- over a host
 
-module _ (H : Type 0) (reading : H → Reading) (writing : H → Writing) (linking : H → Linking) (held : List ℕ → Option (List ℕ)) (words : ClientWords) {E : Ending → Type 0} {P W : Type 0} where
+module _ (H : Type 0) (reading : H → Reading) (writing : H → Writing) (linking : H → Linking) (held : List ℕ → Option (List ℕ)) (words : ClientWords) (E : Ending → Type 0) (P W : Type 0) where
   -- what a stop counts, behind the reading of files
   pub counts-stop : (old mid new : H) → (P → Rose (writing mid).faults (writing new).faults) → (reading mid).faults ≡ (reading old).faults → reading new ≡ reading mid → writing mid ≡ writing old → linking mid ≡ linking old
       → (why : Stop) → StopsAs E P W ⊥ ⊥ (OutsideDid held words (linking mid) (linking new) (writing mid) (writing new)) (CreateDid held words (linking mid) (linking new) (writing mid) (writing new)) why
@@ -401,29 +416,34 @@ module _ (H : Type 0) (reading : H → Reading) (writing : H → Writing) (linki
 pub counts-saved : (H : Type 0) (reading : H → Reading) (writing : H → Writing) (linking : H → Linking) (held : List ℕ → Option (List ℕ)) (words : ClientWords) (old mid new : H)
     → (reading mid).faults ≡ (reading old).faults → reading new ≡ reading mid → writing mid ≡ writing old → linking mid ≡ linking old
     → (result : Result (Unit {0}) Stop) → IfErr result (SaveStopsFiles held words (linking mid) (linking new) (writing mid) (writing new)) → CountsStop H reading writing linking old new result
-counts-saved H reading writing linking held words old mid new = counts-result H reading writing linking held words old mid new (λ (part : SavedInPart held words (linking mid) (linking new) (writing mid) (writing new)). part.did.image.1)
+counts-saved H reading writing linking held words old mid new =
+    counts-result H reading writing linking held words (Saved held words (linking mid) (linking new) (writing mid) (writing new)) (SavedInPart held words (linking mid) (linking new) (writing mid) (writing new))
+    (SavedOff held words (linking mid) (linking new) (writing mid) (writing new)) old mid new (λ (part : SavedInPart held words (linking mid) (linking new) (writing mid) (writing new)). part.did.image.1)
 
 -- files that were read are those of the names
-pub stops-over : (held : List ℕ → Option (List ℕ)) (words : ClientWords) {left : Option (List ℕ)} (old new : Linking) (before after : Writing) (why : Stop) → SaveStopsFiles held words old new before after why
+pub stops-over : (held : List ℕ → Option (List ℕ)) (words : ClientWords) (left : Option (List ℕ)) (old new : Linking) (before after : Writing) (why : Stop) → SaveStopsFiles held words old new before after why
     → SaveStopsOver held words left old new before after why
-stops-over held words {left} old new before after =
-    stops-map (λ e did. did) (λ part. part) (λ off. off) (λ none. absurd none) (λ none. absurd none) (λ line place did. did.0) (λ line fault did. did.0)
+stops-over held words left old new before after =
+    stops-map (Saved held words old new before after) (Saved held words old new before after) (SavedInPart held words old new before after) (SavedInPart held words old new before after)
+    (SavedOff held words old new before after) (SavedOff held words old new before after) ⊥ (Unit {0}) ⊥ (SomeTooLong held left (files_of words))
+    (OutsideDid held words old new before after) (IsOutside held words) (CreateDid held words old new before after) (IsRefusedCreate held words)
+    (λ e did. did) (λ part. part) (λ off. off) (λ none. absurd none) (λ none. absurd none) (λ line place did. did.0) (λ line fault did. did.0)
 
 -- ---- what `warm` does
 
 -- where each line was written, a run stops for what ended it
-pub stops-ended : {E : Ending → Type 0} {W : Type 0} {O : ℕ → ℕ → Type 0} {C : ℕ → Fault → Type 0} (ending : Ending) (why : Stop) → ending_of why ≡ Some ending → E ending → StopsAs E (E Unwritten) W ⊥ ⊥ O C why
-stops-ended {E} {W} {O} {C} ending (stop.Refused refusal.Read) is ended = absurd cc
-stops-ended {E} {W} {O} {C} ending (stop.Refused refusal.Write) is ended = subst E (let same : Some Unwritten ≡ Some ending = is in let e : ending ≡ Unwritten = cc in e) ended
-stops-ended {E} {W} {O} {C} ending (stop.Refused refusal.Link) is ended = subst E (let same : Some Faulty ≡ Some ending = is in let e : ending ≡ Faulty = cc in e) ended
-stops-ended {E} {W} {O} {C} ending (stop.Refused refusal.Memory) is ended = absurd cc
-stops-ended {E} {W} {O} {C} ending (stop.Refused refusal.TooLong) is ended = absurd cc
-stops-ended {E} {W} {O} {C} ending (stop.Refused (refusal.Line line place)) is ended = absurd cc
-stops-ended {E} {W} {O} {C} ending (stop.Refused (refusal.Setup line fault)) is ended = absurd cc
-stops-ended {E} {W} {O} {C} ending (stop.Refused (refusal.Load table fault)) is ended = absurd cc
-stops-ended {E} {W} {O} {C} ending (stop.Spoiled fault) is ended = subst E (let same : Some (Spoiled fault) ≡ Some ending = is in let e : ending ≡ Spoiled fault = cc in e) ended
-stops-ended {E} {W} {O} {C} ending (stop.Bad why) is ended = subst E (let same : Some (BadMessage why) ≡ Some ending = is in let e : ending ≡ BadMessage why = cc in e) ended
-stops-ended {E} {W} {O} {C} ending stop.Limit is ended = subst E (let same : Some TooMany ≡ Some ending = is in let e : ending ≡ TooMany = cc in e) ended
+pub stops-ended : (E : Ending → Type 0) (W : Type 0) (O : ℕ → ℕ → Type 0) (C : ℕ → Fault → Type 0) (ending : Ending) (why : Stop) → ending_of why ≡ Some ending → E ending → StopsAs E (E Unwritten) W ⊥ ⊥ O C why
+stops-ended E W O C ending (stop.Refused refusal.Read) is ended = absurd cc
+stops-ended E W O C ending (stop.Refused refusal.Write) is ended = subst E (let same : Some Unwritten ≡ Some ending = is in let e : ending ≡ Unwritten = cc in e) ended
+stops-ended E W O C ending (stop.Refused refusal.Link) is ended = subst E (let same : Some Faulty ≡ Some ending = is in let e : ending ≡ Faulty = cc in e) ended
+stops-ended E W O C ending (stop.Refused refusal.Memory) is ended = absurd cc
+stops-ended E W O C ending (stop.Refused refusal.TooLong) is ended = absurd cc
+stops-ended E W O C ending (stop.Refused (refusal.Line line place)) is ended = absurd cc
+stops-ended E W O C ending (stop.Refused (refusal.Setup line fault)) is ended = absurd cc
+stops-ended E W O C ending (stop.Refused (refusal.Load table fault)) is ended = absurd cc
+stops-ended E W O C ending (stop.Spoiled fault) is ended = subst E (let same : Some (Spoiled fault) ≡ Some ending = is in let e : ending ≡ Spoiled fault = cc in e) ended
+stops-ended E W O C ending (stop.Bad why) is ended = subst E (let same : Some (BadMessage why) ≡ Some ending = is in let e : ending ≡ BadMessage why = cc in e) ended
+stops-ended E W O C ending stop.Limit is ended = subst E (let same : Some TooMany ≡ Some ending = is in let e : ending ≡ TooMany = cc in e) ended
 
 module _ (words : ClientWords) (tables : List Table) (ahead : Ahead) (bytes text : List ℕ) (end : End) (by : BeginsAs words tables bytes text end) where
   abbrev pub past : session.Client
@@ -470,7 +490,10 @@ module _ (words : ClientWords) (tables : List Table) (ahead : Ahead) (bytes text
     }
 
     pub warms-stopped : WritesAll text before mid → (why : Stop) → StopsAs RunsOn (RunsOn Unwritten) BreaksOn ⊥ ⊥ (λ line place. ⊥) (λ line fault. ⊥) why → WarmStops words tables ahead bytes old new before after why
-    warms-stopped said = stops-map (λ e ran. warms-of said e ran) (λ ran. inl (warms-of said Unwritten ran)) (λ off. inr (inl (warms-off said off))) (λ none. none) (λ none. none) (λ line place none. none) (λ line fault none. none)
+    warms-stopped said =
+        stops-map RunsOn (λ e. Warms words tables ahead bytes e old new before after) (RunsOn Unwritten) (WarmsUnwritten words tables ahead bytes old new before after)
+        BreaksOn (Untouched old new before after ⊎ WarmsOff words tables ahead bytes old new before after) ⊥ ⊥ ⊥ ⊥ (λ line place. ⊥) (λ line place. ⊥) (λ line fault. ⊥) (λ line fault. ⊥)
+        (λ e ran. warms-of said e ran) (λ ran. inl (warms-of said Unwritten ran)) (λ off. inr (inl (warms-off said off))) (λ none. none) (λ none. none) (λ line place none. none) (λ line fault none. none)
 
   -- its lines were not written
   pub warms-only : (Writes : List ℕ → Writing → Writing → Type 0) (old new : Linking) (before after : Writing) → new ≡ old → Writes text before after → WarmsOnly Writes words tables ahead bytes old new before after
@@ -494,21 +517,31 @@ module _ (held : List ℕ → Option (List ℕ)) (words : WarmWords) where
   warmed-off old new before after ending each warmed = inr (over-map (λ tables ahead bytes warms. inl (warms-in-part words.client tables ahead bytes ending old new before after each warms)) warmed)
 
   pub warm-asked : (schema script bytes : List ℕ) → AreFiles held words.client schema script → IsWhatIsHeld (held words.image) bytes → (tables : List Table) (ahead : Ahead) → AsksLines words.client.id schema script tables ahead
-      → {D : List Table → Ahead → List ℕ → Type 0} → D tables ahead bytes → AskedOver held words D
-  warm-asked schema script bytes files image tables ahead asks {D} did =
+      → (D : List Table → Ahead → List ℕ → Type 0) → D tables ahead bytes → AskedOver held words D
+  warm-asked schema script bytes files image tables ahead asks D did =
       record { image = bytes; image_read = image; asked = record { schema = schema; script = script; files = files; tables = tables; ahead = ahead; asks = asks; did = did } }
 
   pub warm-stops : (schema script bytes : List ℕ) → AreFiles held words.client schema script → IsWhatIsHeld (held words.image) bytes → (tables : List Table) (ahead : Ahead) → AsksLines words.client.id schema script tables ahead
       → (old new : Linking) (before after : Writing) (why : Stop) → WarmStops words.client tables ahead bytes old new before after why → WarmStopsFiles held words old new before after (warm_stop.Stopped why)
   warm-stops schema script bytes files image tables ahead asks old new before after =
-      stops-map (λ e did. warm-asked schema script bytes files image tables ahead asks did) (λ did. warm-asked schema script bytes files image tables ahead asks did)
-      (or-map (λ did. warm-asked schema script bytes files image tables ahead asks did)) (λ none. none) (λ none. none) (λ line place none. absurd none) (λ line fault none. absurd none)
+      stops-map (λ e. Warms words.client tables ahead bytes e old new before after) (Warmed held words old new before after)
+      (WarmsUnwritten words.client tables ahead bytes old new before after) (WarmedInPart held words old new before after)
+      (Untouched old new before after ⊎ WarmsOff words.client tables ahead bytes old new before after) (WarmedOff held words old new before after)
+      ⊥ ⊥ ⊥ ⊥ (λ line place. ⊥) (OutsideDid held words.client old new before after) (λ line fault. ⊥) (CreateDid held words.client old new before after)
+      (λ e. warm-asked schema script bytes files image tables ahead asks (λ t a b. Warms words.client t a b e old new before after))
+      (warm-asked schema script bytes files image tables ahead asks (λ t a b. WarmsUnwritten words.client t a b old new before after))
+      (or-map (Untouched old new before after) (WarmsOff words.client tables ahead bytes old new before after) (AskedOver held words (λ t a b. WarmsOff words.client t a b old new before after))
+      (warm-asked schema script bytes files image tables ahead asks (λ t a b. WarmsOff words.client t a b old new before after)))
+      (λ none. none) (λ none. none) (λ line place none. absurd none) (λ line fault none. absurd none)
 
   -- files that were read are those of the names
-  pub warm-over : {left : Option (List ℕ)} (old new : Linking) (before after : Writing) (why : WarmStop) → WarmStopsFiles held words old new before after why → WarmStopsOver held words left old new before after why
-  warm-over {left} old new before after (warm_stop.NoImage fault) did = did
-  warm-over {left} old new before after (warm_stop.Stopped why) did =
-      stops-map (λ e did. did) (λ part. part) (λ off. off) (λ none. absurd none) (λ none. absurd none) (λ line place did. did.0) (λ line fault did. did.0) why did
+  pub warm-over : (left : Option (List ℕ)) (old new : Linking) (before after : Writing) (why : WarmStop) → WarmStopsFiles held words old new before after why → WarmStopsOver held words left old new before after why
+  warm-over left old new before after (warm_stop.NoImage fault) did = did
+  warm-over left old new before after (warm_stop.Stopped why) did =
+      stops-map (Warmed held words old new before after) (Warmed held words old new before after) (WarmedInPart held words old new before after) (WarmedInPart held words old new before after)
+      (WarmedOff held words old new before after) (WarmedOff held words old new before after) ⊥ (Unit {0}) ⊥ (SomeTooLong held left (names_of words))
+      (OutsideDid held words.client old new before after) (IsOutside held words.client) (CreateDid held words.client old new before after) (IsRefusedCreate held words.client)
+      (λ e d. d) (λ part. part) (λ off. off) (λ none. absurd none) (λ none. absurd none) (λ line place d. d.0) (λ line fault d. d.0) why did
 
 -- what was not written counts as a fault
 unwritten-counts : (held : List ℕ → Option (List ℕ)) (words : WarmWords) (old new : Linking) (before after : Writing) → WarmedInPart held words old new before after → Rose before.faults after.faults
@@ -524,9 +557,11 @@ pub counts-warmed : (H : Type 0) (reading : H → Reading) (writing : H → Writ
 counts-warmed H reading writing linking held words old mid new faults read write link (Ok done) stops = ap (λ (r : Reading). r.faults) read ∙ faults
 counts-warmed H reading writing linking held words old mid new faults read write link (Err (warm_stop.NoImage fault)) stops = ap (λ (r : Reading). r.faults) read ∙ faults
 counts-warmed H reading writing linking held words old mid new faults read write link (Err (warm_stop.Stopped why)) stops =
-    counts-stop H reading writing linking held words.client old mid new (unwritten-counts held words (linking mid) (linking new) (writing mid) (writing new)) faults read write link why stops
+    counts-stop H reading writing linking held words.client (Warmed held words (linking mid) (linking new) (writing mid) (writing new)) (WarmedInPart held words (linking mid) (linking new) (writing mid) (writing new))
+    (WarmedOff held words (linking mid) (linking new) (writing mid) (writing new)) old mid new (unwritten-counts held words (linking mid) (linking new) (writing mid) (writing new)) faults read write link why stops
 
 -- what is read as an image is one
 pub image-whole : (schema : List Table) (bytes : List ℕ) (result : Result Image (No ImageFault)) → IsTrue (are_bytes bytes) → Answers result (image_in schema bytes) → IfOk result (λ image. IsTrue (is_image schema image))
 image-whole schema bytes (Ok image) fit is = (was-spelled schema bytes image fit is).1
-image-whole schema bytes (Err no) fit is = tt
+image-whole schema bytes (Err (NoBut fault)) fit is = tt
+image-whole schema bytes (Err Wanting) fit is = tt

@@ -41,13 +41,11 @@ returns-in-Ok-clause-ran g c = λ ahead follows.
     let is = c.in_ok-end.ensures in
     let stands = subst (λ (e : End). Stands e new_past) (sym is) (new_stands words.id schema words.limits false false c.requires.tables) in
     let there = subst (λ (s : List Table). g.P.Plans.follows s c.args.plans.now ahead) (sym c.as_slice.ensures) follows in
-    record {
-      ran = ran_new words.id words.address schema words.limits false false (Next 0 (Do Resumed) ahead) ending old new before after left c.requires.tables
-          (subst (λ (e : End). RanFrom e new_past words.address (Next 0 (Do Resumed) ahead) ending old new before after left) is
-          (subst (λ (a : List ℕ). RanFrom c.in_ok-end.end new_past a (Next 0 (Do Resumed) ahead) ending old new before after left) c.as_str-address.ensures
-          (c.in-Ok.ensures.ran new_past ahead stands refl refl there)));
-      is = refl;
-    }
+    let from = subst (λ (e : End). RanFrom e new_past words.address (Next 0 (Do Resumed) ahead) ending old new before after left) is
+        (subst (λ (a : List ℕ). RanFrom c.in_ok-end.end new_past a (Next 0 (Do Resumed) ahead) ending old new before after left) c.as_str-address.ensures
+        (c.in-Ok.ensures.ran new_past ahead stands refl refl there)) in
+    let known = ran_new words.id words.address schema words.limits false false (Next 0 (Do Resumed) ahead) ending old new before after left c.requires.tables from in
+    record { ran = record { begins = known.begins; left = left; ran = from }; is = refl }
 
 pub returns-in-Ok-clause-limits : goal.returns-in-Ok-clause-limits
 returns-in-Ok-clause-limits g c = ap (λ (k : Setting). k.limits) c.run_plan.ensures.setting ∙ ap (λ (e : End). e.client.store.limits) c.in_ok-end.ensures

@@ -1,12 +1,14 @@
-use Rattle.std.proofs.Common.{Err, inl, sym, ap, subst, ◌∙◌}
+use Rattle.std.proofs.Common.{List, ℕ, Option, Err, inl, sym, ap, subst, ◌∙◌}
+use Rattle.std.specs.Prelude.{IfErr}
+use Rattle.sr_io.specs.Told.{Linking, Writing}
 use Rattle.std.proofs.lemmas.Result.{IfErr-weaker}
 use Rattle.sr_cli.specs.Client.{AreFiles, files_of}
-use Rattle.sr_cli.specs.Image.{SaveStopsOver}
+use Rattle.sr_cli.specs.Image.{SaveStopsFiles, SaveStopsOver}
 use Rattle.sr_cli.specs.Leaves.{NotRead}
 use Rattle.sr_cli.specs.declared.stop.Stop.TheVariants.{Refused}
-use Rattle.sr_cli.proofs.Endings.{one_stop}
+use Rattle.sr_cli.proofs.Endings.{stop-failed}
 use Rattle.sr_cli.proofs.ImageLemmas.{counts-saved, stops-over}
-use Rattle.sr_cli.proofs.LeavesLemmas.{counts-unread, err-of, read-failed, unread-as}
+use Rattle.sr_cli.proofs.LeavesLemmas.{counts-unread, err-of, unread-as}
 use Rattle.sr_cli.proofs.save.save_files.Goals as goal
 
 pub save_read-requires-clause-files : goal.save_read-requires-clause-files
@@ -22,11 +24,20 @@ returns-in-Ok-clause-whole g c =
 
 pub returns-in-Ok-clause-stopped : goal.returns-in-Ok-clause-stopped
 returns-in-Ok-clause-stopped g c =
-    let stopped = rw (c.read_files.ensures.stays.held_stays, c.read_files.ensures.stays.linking_stays, c.read_files.ensures.stays.writing_stays) at c.save_read.ensures.stopped in
-    IfErr-weaker c.save_read.result _ _
-    (stops-over (g.H.Outside.held c.args.host.now) c.args.words.now (g.H.Outside.linking c.args.host.now) (g.H.Outside.linking c.save_read.new.host)
-    (g.H.Outside.writing c.args.host.now) (g.H.Outside.writing c.save_read.new.host))
-    stopped
+    let words = c.args.words.now in
+    let stays = c.read_files.ensures.stays in
+    let new = g.H.Outside.linking c.save_read.new.host in
+    let after = g.H.Outside.writing c.save_read.new.host in
+    let held = g.H.Outside.held c.args.host.now in
+    let old = g.H.Outside.linking c.args.host.now in
+    let before = g.H.Outside.writing c.args.host.now in
+    let mid = g.H.Outside.writing c.read_files.new.host in
+    let middle = g.H.Outside.linking c.read_files.new.host in
+    IfErr-weaker c.save_read.result (SaveStopsFiles held words old new before after) (SaveStopsOver held words (g.H.Outside.reading c.save_read.new.host).left old new before after)
+    (stops-over held words (g.H.Outside.reading c.save_read.new.host).left old new before after)
+    (subst (λ (w : Writing). IfErr c.save_read.result (SaveStopsFiles held words old new w after)) stays.writing_stays
+    (subst (λ (l : Linking). IfErr c.save_read.result (SaveStopsFiles held words l new mid after)) stays.linking_stays
+    (subst (λ (h : List ℕ → Option (List ℕ)). IfErr c.save_read.result (SaveStopsFiles h words middle new mid after)) stays.held_stays c.save_read.ensures.stopped)))
 
 pub returns-in-Ok-clause-counts : goal.returns-in-Ok-clause-counts
 returns-in-Ok-clause-counts g c =
@@ -59,4 +70,4 @@ returns-in-Ok-clause-steady_reads g c = λ steady failed schema script are. absu
 
 pub returns-in-Err-clause-steady_reads : goal.returns-in-Err-clause-steady_reads
 returns-in-Err-clause-steady_reads g c = λ steady failed schema script are.
-    c.in-Err.ensures.steady steady (ap Err (read-failed c.in-Err.fault (ap Err (sym c.unread.ensures ∙ one_stop _ _ failed)))) schema script are
+    c.in-Err.ensures.steady steady (ap Err (stop-failed c.in-Err.fault (rw c.unread.ensures at failed))) schema script are

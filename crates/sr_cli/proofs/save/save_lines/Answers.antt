@@ -24,7 +24,7 @@ returns-in-Ok-clause-whole g c = λ ahead follows.
     let old = g.H.Outside.linking c.args.host.now in
     let before = g.H.Outside.writing c.args.host.now in
     let mid = g.H.Outside.writing c.run_quietly.new.host in
-    let after = g.H.Outside.writing c.save_quiet.new.host in
+    let after = g.H.Outside.writing c.save_quiet.new.sink in
     on_ok_weaker c.save_quiet.result
     (λ ends. subst (λ (l : Linking). Saves words schema ahead Whole old l before after) (sym c.save_quiet.ensures.linking_stays)
     (saves-of words schema ahead c.in-Ok.quiet.ending c.in-Ok.quiet.end old (g.H.Outside.linking c.run_quietly.new.host) before mid after (c.in-Ok.ensures.ran ahead follows) Whole ends))
@@ -37,7 +37,7 @@ returns-in-Ok-clause-stopped g c = λ ahead follows.
     let old = g.H.Outside.linking c.args.host.now in
     let before = g.H.Outside.writing c.args.host.now in
     let mid = g.H.Outside.writing c.run_quietly.new.host in
-    let after = g.H.Outside.writing c.save_quiet.new.host in
+    let after = g.H.Outside.writing c.save_quiet.new.sink in
     subst (λ (l : Linking). IfErr c.save_quiet.result (SaveStops words schema ahead old l before after)) (sym c.save_quiet.ensures.linking_stays)
     (IfErr-weaker c.save_quiet.result (StopsQuietly schema c.in-Ok.quiet.end c.in-Ok.quiet.ending mid after) (SaveStops words schema ahead old (g.H.Outside.linking c.run_quietly.new.host) before after)
     (stops-of words schema ahead c.in-Ok.quiet.ending c.in-Ok.quiet.end old (g.H.Outside.linking c.run_quietly.new.host) before mid after (c.in-Ok.ensures.ran ahead follows))

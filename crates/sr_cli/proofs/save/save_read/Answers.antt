@@ -2,7 +2,7 @@ use Rattle.std.proofs.Common.{◌<◌, ◌^◌, List, Err, length, arith, sym, a
 use Rattle.std.proofs.lemmas.Result.{on_ok_weaker, IfErr-weaker}
 use Rattle.sr_dial.specs.Jobs.{AreAhead}
 use Rattle.sr_reader.specs.declared.script.EventLine.{EventLine}
-use Rattle.sr_cli.specs.Image.{SaveStops, SaveStopsFiles}
+use Rattle.sr_cli.specs.Image.{Asked, SaveStops, SaveStopsFiles, Saved, SavedInPart, SavesOff}
 use Rattle.sr_cli.specs.Kinds.{line_fault}
 use Rattle.sr_cli.proofs.ClientLemmas.{some_ahead}
 use Rattle.sr_cli.proofs.ImageLemmas.{asked-stops, unset-as}
@@ -13,8 +13,11 @@ returns-in-Err-clause-stopped g c =
     let files = c.args.files.now in
     let words = c.args.words.now in
     let is = ap (λ k. line_fault k words.id) c.requires.kind in
+    let held = g.H.Outside.held c.args.host.now in
+    let l = g.H.Outside.linking c.args.host.now in
+    let w = g.H.Outside.writing c.args.host.now in
     rw c.stop_of.ensures
-    (unset-as (g.H.Outside.held c.args.host.now) words files.schema files.script c.in-Err.no (g.H.Outside.linking c.args.host.now) (g.H.Outside.writing c.args.host.now) c.requires.files.are
+    (unset-as (Saved held words l l w w) (SavedInPart held words l l w w) (Asked held words (λ tables ahead. SavesOff words tables ahead l l w w)) (g.H.Outside.held c.args.host.now) words files.schema files.script c.in-Err.no (g.H.Outside.linking c.args.host.now) (g.H.Outside.writing c.args.host.now) c.requires.files.are
     (λ line place e. rw (is, sym c.as_slice.ensures, sym c.as_slice-2.ensures) (c.in-Err.ensures.line line place (ap Err e)))
     (λ line why e. rw (is, sym c.as_slice.ensures, sym c.as_slice-2.ensures) (c.in-Err.ensures.create line why (ap Err e))))
 

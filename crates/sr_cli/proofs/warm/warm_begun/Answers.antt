@@ -22,11 +22,11 @@ returns-in-Ok-clause-whole g c = λ bytes ahead b follows.
     let old = g.H.Outside.linking c.args.host.now in
     let new = g.H.Outside.linking c.warm_on.new.host in
     let before = g.H.Outside.writing c.args.host.now in
-    let mid = g.H.Outside.writing c.write_bytes.new.host in
+    let mid = g.H.Outside.writing c.write_bytes.new.sink in
     let after = g.H.Outside.writing c.warm_on.new.host in
     let ran = c.warm_on.ensures.whole (past words schema ahead bytes _ end b) ahead (start-stands words schema ahead bytes _ end b) refl refl follows in
     on_ok_weaker c.warm_on.result
-    (λ ran. warms-of words schema ahead bytes _ end b old new before mid after c.warm_on.new.end (rw c.as_bytes.ensures at c.in-Ok.ensures.wrote) Whole ran)
+    (λ ran. warms-of words schema ahead bytes _ end b old new before mid after c.warm_on.new.end (rw c.as_bytes.ensures.value at c.in-Ok.ensures.wrote) Whole ran)
     (rw c.write_bytes.ensures.linking_stays at ran)
 
 pub returns-in-Ok-clause-stopped : goal.returns-in-Ok-clause-stopped
@@ -37,19 +37,19 @@ returns-in-Ok-clause-stopped g c = λ bytes ahead b follows.
     let old = g.H.Outside.linking c.args.host.now in
     let new = g.H.Outside.linking c.warm_on.new.host in
     let before = g.H.Outside.writing c.args.host.now in
-    let mid = g.H.Outside.writing c.write_bytes.new.host in
+    let mid = g.H.Outside.writing c.write_bytes.new.sink in
     let after = g.H.Outside.writing c.warm_on.new.host in
     let stopped = c.warm_on.ensures.stopped (past words schema ahead bytes _ end b) ahead (start-stands words schema ahead bytes _ end b) refl refl follows in
     IfErr-weaker c.warm_on.result _ (WarmStops words schema ahead bytes old new before after)
-    (warms-stopped words schema ahead bytes _ end b old new before mid after c.warm_on.new.end (rw c.as_bytes.ensures at c.in-Ok.ensures.wrote))
+    (warms-stopped words schema ahead bytes _ end b old new before mid after c.warm_on.new.end (rw c.as_bytes.ensures.value at c.in-Ok.ensures.wrote))
     (rw c.write_bytes.ensures.linking_stays at stopped)
 
 pub returns-in-Err-Refused-clause-stopped : goal.returns-in-Err-Refused-clause-stopped
 returns-in-Err-Refused-clause-stopped g c = λ bytes ahead b follows.
-    inr (warms-only c.args.words.now c.args.schema.now ahead bytes _ c.args.begun.end b WritesPart (g.H.Outside.linking c.args.host.now) (g.H.Outside.linking c.write_bytes.new.host)
-    (g.H.Outside.writing c.args.host.now) (g.H.Outside.writing c.write_bytes.new.host) c.write_bytes.ensures.linking_stays (rw c.as_bytes.ensures at c.in-Err-Refused.ensures.wrote))
+    inr (warms-only c.args.words.now c.args.schema.now ahead bytes _ c.args.begun.end b WritesPart (g.H.Outside.linking c.args.host.now) (g.H.Outside.linking c.write_bytes.new.sink)
+    (g.H.Outside.writing c.args.host.now) (g.H.Outside.writing c.write_bytes.new.sink) c.write_bytes.ensures.linking_stays (rw c.as_bytes.ensures.value at c.in-Err-Refused.ensures.wrote))
 
-pub returns-in-Err-NoMemory-clause-stopped : goal.returns-in-Err-NoMemory-clause-stopped
-returns-in-Err-NoMemory-clause-stopped g c = λ bytes ahead b follows.
-    inr (inr (warms-only c.args.words.now c.args.schema.now ahead bytes _ c.args.begun.end b WritesOff (g.H.Outside.linking c.args.host.now) (g.H.Outside.linking c.write_bytes.new.host)
-    (g.H.Outside.writing c.args.host.now) (g.H.Outside.writing c.write_bytes.new.host) c.write_bytes.ensures.linking_stays (rw c.as_bytes.ensures at c.in-Err-NoMemory.ensures.wrote)))
+pub returns-clause-stopped : goal.returns-clause-stopped
+returns-clause-stopped g c = λ bytes ahead b follows.
+    inr (inr (warms-only c.args.words.now c.args.schema.now ahead bytes _ c.args.begun.end b WritesOff (g.H.Outside.linking c.args.host.now) (g.H.Outside.linking c.write_bytes.new.sink)
+    (g.H.Outside.writing c.args.host.now) (g.H.Outside.writing c.write_bytes.new.sink) c.write_bytes.ensures.linking_stays (rw c.as_bytes.ensures.value at c.in-Err-NoMemory.ensures.wrote)))

@@ -1,13 +1,15 @@
-use Rattle.std.proofs.Common.{[], ◌∷◌, Err, inl, refl, sym, ap, subst, ◌∙◌}
+use Rattle.std.proofs.Common.{List, ℕ, Option, [], ◌∷◌, Err, inl, refl, sym, ap, subst, ◌∙◌}
+use Rattle.std.specs.Prelude.{IfErr}
 use Rattle.std.proofs.lemmas.Result.{IfErr-weaker}
+use Rattle.sr_io.specs.Told.{Linking, Writing}
 use Rattle.sr_cli.specs.Client.{files_of}
-use Rattle.sr_cli.specs.Image.{WarmStopsOver, names_of}
+use Rattle.sr_cli.specs.Image.{WarmStopsFiles, WarmStopsOver, names_of}
 use Rattle.sr_cli.specs.Leaves.{NotRead}
 use Rattle.sr_cli.specs.declared.stop.Stop.TheVariants.{Refused}
 use Rattle.sr_cli.specs.declared.warm.WarmStop.TheVariants.{Stopped}
-use Rattle.sr_cli.proofs.ImageFits.{never-held, one_warm_stop}
+use Rattle.sr_cli.proofs.ImageFits.{never-held, warm-failed}
 use Rattle.sr_cli.proofs.ImageLemmas.{counts-warmed, warm-over}
-use Rattle.sr_cli.proofs.LeavesLemmas.{behind-not-read, counts-unread, err-of, front-not-read, read-failed, unread-as}
+use Rattle.sr_cli.proofs.LeavesLemmas.{behind-not-read, counts-unread, err-of, front-not-read, unread-as}
 use Rattle.sr_cli.proofs.warm.warm_files.Goals as goal
 
 pub warm_read-requires-clause-files : goal.warm_read-requires-clause-files
@@ -48,7 +50,7 @@ returns-in-Err-read_file-clause-stopped g c =
     let image = rw (c.read_files.ensures.stays.held_stays, c.as_str.ensures) at c.in-Err-read_file.ensures.not_read in
     let all = behind-not-read held words.client.schema c.in-Ok.files.schema (words.client.script ∷ words.image ∷ []) from mid to c.in-Err-read_file.fault files.schema_read c.in-Ok.ensures.ok_keeps_faults
     (behind-not-read held words.client.script c.in-Ok.files.script (words.image ∷ []) mid mid to c.in-Err-read_file.fault files.script_read refl image) in
-    rw c.unread-2.ensures
+    rw c.unread-in-Err-read_file.ensures
     (unread-as (λ r. WarmStopsOver held words to.left (g.H.Outside.linking c.args.host.now) (g.H.Outside.linking c.read_file.new.host) (g.H.Outside.writing c.args.host.now) (g.H.Outside.writing c.read_file.new.host) (Stopped (Refused r)))
     c.in-Err-read_file.fault (λ is. tt)
     (λ is. inl (record { linking = c.read_file.ensures.stays.linking_stays ∙ c.read_files.ensures.stays.linking_stays; writing = c.read_file.ensures.stays.writing_stays ∙ c.read_files.ensures.stays.writing_stays }))
@@ -65,7 +67,7 @@ returns-in-Err-read_file-clause-counts g c =
     let image = rw (c.read_files.ensures.stays.held_stays, c.as_str.ensures) at c.in-Err-read_file.ensures.not_read in
     let all = behind-not-read held words.client.schema c.in-Ok.files.schema (words.client.script ∷ words.image ∷ []) from mid to c.in-Err-read_file.fault files.schema_read c.in-Ok.ensures.ok_keeps_faults
     (behind-not-read held words.client.script c.in-Ok.files.script (words.image ∷ []) mid mid to c.in-Err-read_file.fault files.script_read refl image) in
-    rw c.unread-2.ensures
+    rw c.unread-in-Err-read_file.ensures
     (counts-unread _ g.H.Outside.held g.H.Outside.reading g.H.Outside.writing g.H.Outside.linking g.H.Outside.complaints g.H.Outside.IsSteady (names_of words) held c.args.host.now c.read_file.new.host
     c.in-Err-read_file.fault all (c.read_file.ensures.stays.writing_stays ∙ c.read_files.ensures.stays.writing_stays) (c.read_file.ensures.stays.linking_stays ∙ c.read_files.ensures.stays.linking_stays))
 
@@ -81,10 +83,19 @@ returns-in-Ok-read_file-clause-stopped g c =
     let held = c.read_file.ensures.stays.held_stays ∙ c.read_files.ensures.stays.held_stays in
     let linking = c.read_file.ensures.stays.linking_stays ∙ c.read_files.ensures.stays.linking_stays in
     let writing = c.read_file.ensures.stays.writing_stays ∙ c.read_files.ensures.stays.writing_stays in
-    let stopped = rw (held, linking, writing) at c.warm_read.ensures.stopped in
-    IfErr-weaker c.warm_read.result _ _
-    (warm-over (g.H.Outside.held c.args.host.now) c.args.words.now (g.H.Outside.linking c.args.host.now) (g.H.Outside.linking c.warm_read.new.host) (g.H.Outside.writing c.args.host.now) (g.H.Outside.writing c.warm_read.new.host))
-    stopped
+    let words = c.args.words.now in
+    let new = g.H.Outside.linking c.warm_read.new.host in
+    let after = g.H.Outside.writing c.warm_read.new.host in
+    let own = g.H.Outside.held c.args.host.now in
+    let old = g.H.Outside.linking c.args.host.now in
+    let before = g.H.Outside.writing c.args.host.now in
+    let mid = g.H.Outside.writing c.read_file.new.host in
+    let middle = g.H.Outside.linking c.read_file.new.host in
+    IfErr-weaker c.warm_read.result (WarmStopsFiles own words old new before after) (WarmStopsOver own words (g.H.Outside.reading c.warm_read.new.host).left old new before after)
+    (warm-over own words (g.H.Outside.reading c.warm_read.new.host).left old new before after)
+    (subst (λ (w : Writing). IfErr c.warm_read.result (WarmStopsFiles own words old new w after)) writing
+    (subst (λ (l : Linking). IfErr c.warm_read.result (WarmStopsFiles own words l new mid after)) linking
+    (subst (λ (h : List ℕ → Option (List ℕ)). IfErr c.warm_read.result (WarmStopsFiles h words middle new mid after)) held c.warm_read.ensures.stopped)))
 
 pub returns-in-Ok-read_file-clause-counts : goal.returns-in-Ok-read_file-clause-counts
 returns-in-Ok-read_file-clause-counts g c =
@@ -112,10 +123,10 @@ returns-in-Ok-read_file-clause-steady_reads g c = λ steady failed schema script
 
 pub returns-in-Err-clause-steady_reads : goal.returns-in-Err-clause-steady_reads
 returns-in-Err-clause-steady_reads g c = λ steady failed schema script bytes are.
-    c.in-Err.ensures.steady steady (ap Err (read-failed c.in-Err.fault (ap Err (sym c.unread.ensures ∙ one_warm_stop _ _ failed)))) schema script are.files
+    c.in-Err.ensures.steady steady (ap Err (warm-failed c.in-Err.fault (rw c.unread.ensures at failed))) schema script are.files
 
 pub returns-in-Err-read_file-clause-steady_reads : goal.returns-in-Err-read_file-clause-steady_reads
 returns-in-Err-read_file-clause-steady_reads g c = λ steady failed schema script bytes are.
-    let failing = ap Err (read-failed c.in-Err-read_file.fault (ap Err (sym c.unread-2.ensures ∙ one_warm_stop _ _ failed))) in
+    let failing = ap Err (warm-failed c.in-Err-read_file.fault (rw c.unread-in-Err-read_file.ensures at failed)) in
     let none = rw (c.read_files.ensures.stays.held_stays, c.as_str.ensures) at (c.in-Err-read_file.ensures.steady (c.read_files.ensures.stays.stays_steady steady) failing) in
     never-held _ _ none are.image_held

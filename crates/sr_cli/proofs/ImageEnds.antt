@@ -1,5 +1,5 @@
 -- How runs of `save` and `warm` end, over a host.
-use Rattle.std.proofs.Common.{◌≡◌, ℕ, ◌⊎◌, List, Option, Err, arith, inl, inr, refl, sym, ap, subst, ◌∙◌}
+use Rattle.std.proofs.Common.{◌≡◌, ◌≢◌, ℕ, ◌⊎◌, List, Option, Err, arith, inl, inr, refl, sym, ap, subst, ◌∙◌}
 use Rattle.std.specs.Prelude.{IfSome}
 use Rattle.sr_dial.specs.declared.ending.Ending.TheVariants.{Whole, Spoiled, Bad as BadMessage, Limit as TooMany}
 use Rattle.sr_image.specs.declared.image.ImageFault.{ImageFault}
@@ -15,7 +15,7 @@ use Rattle.sr_cli.specs.Files.{SomeTooLong}
 use Rattle.sr_cli.specs.Image.{AreWarmHeld, IsNoImage, SaveStopsOver, Saved, SavedInPart, SavedOff, SavesBy, SavesOver, WarmStopsOver, Warmed, WarmedInPart, WarmedOff, WarmsBy, WarmsOver, image_text, names_of}
 use Rattle.sr_cli.specs.Leaves.{Counts, Leaves, Names, OnlyComplains, OnlyRuns, Reported}
 use Rattle.sr_cli.specs.declared.report.Refusal.{Refusal}
-use Rattle.sr_cli.specs.declared.report.Refusal.TheVariants.{Read}
+use Rattle.sr_cli.specs.declared.report.Refusal.TheVariants.{Read, Write}
 use Rattle.sr_cli.specs.declared.stop.Stop.TheVariants.{Refused}
 use Rattle.sr_cli.specs.declared.warm.WarmStop.TheVariants.{Stopped}
 use Rattle.sr_cli.proofs.ImageLemmas.{comes-bad, comes-limit, comes-other, comes-refused, comes-spoiled, comes-wanting, comes-whole, refused-end, saved-off, warmed-off}
@@ -64,33 +64,35 @@ module _ (H : Type 0) (held : H → List ℕ → Option (List ℕ)) (reading : H
           only = inl refl;
           comes = comes;
           steady = λ steady. fits-saved (held old) words plain (reading new) (linking old) (linking new) (writing old) (writing new) (complaints old) (complaints new) 0 comes (inl refl) (λ is. omega (arith, is));
+          steady_writes = λ steady is. omega (arith, is);
         }
 
     module _ (old mid new : H) (silent : complaints mid ≡ complaints old) (stays : OnlyComplains H reading writing linking held IsSteady mid new) where
-      ends : (status : ℕ) → IsEnd status → (IsSteady old → (schema script : List ℕ) → AreHeld (held old) words schema script → ¬ (status ≡ 3)) → SavesBy (held old) words (reading mid) (linking old) (linking mid) (writing old) (writing mid) (complaints old) (complaints new) status → Ends old new status
-      ends status only reads comes = record {
+      ends : (status : ℕ) → IsEnd status → (IsSteady old → (schema script : List ℕ) → AreHeld (held old) words schema script → ¬ (status ≡ 3)) → (IsSteady old → ¬ (status ≡ 4)) → SavesBy (held old) words (reading mid) (linking old) (linking mid) (writing old) (writing mid) (complaints old) (complaints new) status → Ends old new status
+      ends status only reads writes comes = record {
         only = only;
         comes = moved mid new stays (λ r l w. SavesBy (held old) words r (linking old) l (writing old) w (complaints old) (complaints new) status) comes;
         steady = λ steady schema script are.
             fits-saved (held old) words plain (reading mid) (linking old) (linking mid) (writing old) (writing mid) (complaints old) (complaints new) status comes only (reads steady schema script are) schema script are;
+        steady_writes = writes;
       }
 
       pub saves-spoiled : (status : ℕ) (fault : WireFault) → Names 8 (spoiled_text fault) status (complaints mid) (complaints new) → Saved (held old) words (linking old) (linking mid) (writing old) (writing mid) (Spoiled fault) → Ends old new status
       saves-spoiled status fault named saved =
           let which = named-status (spoiled_text fault) status (complaints mid) (complaints new) named in
-          ends status (frames-end status which) (λ steady schema script are is. omega (arith, which, is))
+          ends status (frames-end status which) (λ steady schema script are is. omega (arith, which, is)) (λ steady is. omega (arith, which, is))
           (comes-spoiled (held old) words (Saved (held old) words (linking old) (linking mid) (writing old) (writing mid)) (SavedInPart (held old) words (linking old) (linking mid) (writing old) (writing mid))
           (SavedOff (held old) words (linking old) (linking mid) (writing old) (writing mid)) (SomeTooLong (held old) (reading mid).left (files_of words)) (complaints old) (complaints mid) (complaints new) silent status fault named saved
           (saved-off (held old) words (linking old) (linking mid) (writing old) (writing mid) (Spoiled fault) refl refl saved))
 
       pub saves-bad : (status : ℕ) (why : BadFrame) → status ≡ 8 → complaints new ≡ complained (bad_text why) (complaints mid) → Saved (held old) words (linking old) (linking mid) (writing old) (writing mid) (BadMessage why) → Ends old new status
       saves-bad status why is said saved =
-          ends status (frames-end status (inl is)) (λ steady schema script are three. omega (arith, is, three)) (comes-bad (held old) words (Saved (held old) words (linking old) (linking mid) (writing old) (writing mid)) (SavedInPart (held old) words (linking old) (linking mid) (writing old) (writing mid))
+          ends status (frames-end status (inl is)) (λ steady schema script are three. omega (arith, is, three)) (λ steady four. omega (arith, is, four)) (comes-bad (held old) words (Saved (held old) words (linking old) (linking mid) (writing old) (writing mid)) (SavedInPart (held old) words (linking old) (linking mid) (writing old) (writing mid))
           (SavedOff (held old) words (linking old) (linking mid) (writing old) (writing mid)) (SomeTooLong (held old) (reading mid).left (files_of words)) (complaints old) (complaints mid) (complaints new) silent status why is said saved)
 
       pub saves-limit : (status : ℕ) → status ≡ 11 → Saved (held old) words (linking old) (linking mid) (writing old) (writing mid) TooMany → Ends old new status
       saves-limit status is saved =
-          ends status (inr (inr (inr (inr (inr (inr (inr (inr (inr is))))))))) (λ steady schema script are three. omega (arith, is, three)) (comes-limit (held old) words (Saved (held old) words (linking old) (linking mid) (writing old) (writing mid)) (SavedInPart (held old) words (linking old) (linking mid) (writing old) (writing mid))
+          ends status (inr (inr (inr (inr (inr (inr (inr (inr (inr is))))))))) (λ steady schema script are three. omega (arith, is, three)) (λ steady four. omega (arith, is, four)) (comes-limit (held old) words (Saved (held old) words (linking old) (linking mid) (writing old) (writing mid)) (SavedInPart (held old) words (linking old) (linking mid) (writing old) (writing mid))
           (SavedOff (held old) words (linking old) (linking mid) (writing old) (writing mid)) (SomeTooLong (held old) (reading mid).left (files_of words)) (complaints old) (complaints mid) (complaints new) silent status is saved)
 
       -- what has a name did nothing
@@ -102,13 +104,14 @@ module _ (H : Type 0) (held : H → List ℕ → Option (List ℕ)) (reading : H
 
       pub saves-refused : (refusal : Refusal) (status : ℕ) → Reported refusal status (complaints mid) (complaints new) → Counts H reading writing linking old mid (Err refusal)
           → SaveStopsOver (held old) words (reading mid).left (linking old) (linking mid) (writing old) (writing mid) (Refused refusal)
-          → (IsSteady old → refusal ≡ Read → (schema script : List ℕ) → ¬ AreHeld (held old) words schema script) → Ends old new status
-      saves-refused refusal status reported counts why reads =
+          → (IsSteady old → refusal ≡ Read → (schema script : List ℕ) → ¬ AreHeld (held old) words schema script) → (IsSteady old → refusal ≢ Write) → Ends old new status
+      saves-refused refusal status reported counts why reads writes =
           ends status
           (refused-end (held old) words (Saved (held old) words (linking old) (linking mid) (writing old) (writing mid)) (SavedInPart (held old) words (linking old) (linking mid) (writing old) (writing mid))
           (SavedOff (held old) words (linking old) (linking mid) (writing old) (writing mid)) (SomeTooLong (held old) (reading mid).left (files_of words))
           (complaints old) (complaints mid) (complaints new) silent refusal status reported why (nothing refusal status reported counts))
           (λ steady schema script are is. reads steady ((reported-is refusal status (complaints mid) (complaints new) reported).read is) schema script are)
+          (λ steady is. writes steady ((reported-is refusal status (complaints mid) (complaints new) reported).write is))
           (comes-refused (held old) words (Saved (held old) words (linking old) (linking mid) (writing old) (writing mid)) (SavedInPart (held old) words (linking old) (linking mid) (writing old) (writing mid))
           (SavedOff (held old) words (linking old) (linking mid) (writing old) (writing mid)) (SomeTooLong (held old) (reading mid).left (files_of words))
           (complaints old) (complaints mid) (complaints new) silent refusal status reported why (nothing refusal status reported counts))
@@ -129,36 +132,38 @@ module _ (H : Type 0) (held : H → List ℕ → Option (List ℕ)) (reading : H
           comes = comes;
           steady = λ steady schema script bytes are.
               fits-warmed (held old) words schema script bytes are (reading new) (linking old) (linking new) (writing old) (writing new) (complaints old) (complaints new) 0 comes (λ is. omega (arith, is)) (λ is. absurd (omega (arith, is)));
+          steady_writes = λ steady is. omega (arith, is);
           no_image = λ is. absurd (omega (arith, is));
         }
 
     module _ (old mid new : H) (silent : complaints mid ≡ complaints old) (stays : OnlyComplains H reading writing linking held IsSteady mid new) where
-      warm-ends : (status : ℕ) → IsEnd status → (IsSteady old → (schema script bytes : List ℕ) → AreWarmHeld (held old) words schema script bytes → ¬ (status ≡ 3)) → WarmsBy (held old) words (reading mid) (linking old) (linking mid) (writing old) (writing mid) (complaints old) (complaints new) status → WarmEnds old new status
-      warm-ends status only reads comes = record {
+      warm-ends : (status : ℕ) → IsEnd status → (IsSteady old → (schema script bytes : List ℕ) → AreWarmHeld (held old) words schema script bytes → ¬ (status ≡ 3)) → (IsSteady old → ¬ (status ≡ 4)) → WarmsBy (held old) words (reading mid) (linking old) (linking mid) (writing old) (writing mid) (complaints old) (complaints new) status → WarmEnds old new status
+      warm-ends status only reads writes comes = record {
         only = inl only;
         no_image = λ is. absurd (never-13 status only is);
         comes = moved mid new stays (λ r l w. WarmsBy (held old) words r (linking old) l (writing old) w (complaints old) (complaints new) status) comes;
         steady = λ steady schema script bytes are.
             fits-warmed (held old) words schema script bytes are (reading mid) (linking old) (linking mid) (writing old) (writing mid) (complaints old) (complaints new) status comes (reads steady schema script bytes are)
             (λ is. absurd (never-13 status only is));
+        steady_writes = writes;
       }
 
       pub warms-spoiled : (status : ℕ) (fault : WireFault) → Names 8 (spoiled_text fault) status (complaints mid) (complaints new) → Warmed (held old) words (linking old) (linking mid) (writing old) (writing mid) (Spoiled fault) → WarmEnds old new status
       warms-spoiled status fault named warmed =
           let which = named-status (spoiled_text fault) status (complaints mid) (complaints new) named in
-          warm-ends status (frames-end status which) (λ steady schema script bytes are is. omega (arith, which, is))
+          warm-ends status (frames-end status which) (λ steady schema script bytes are is. omega (arith, which, is)) (λ steady is. omega (arith, which, is))
           (comes-spoiled (held old) words.client (Warmed (held old) words (linking old) (linking mid) (writing old) (writing mid)) (WarmedInPart (held old) words (linking old) (linking mid) (writing old) (writing mid))
           (WarmedOff (held old) words (linking old) (linking mid) (writing old) (writing mid)) (SomeTooLong (held old) (reading mid).left (names_of words)) (complaints old) (complaints mid) (complaints new) silent status fault named warmed
           (warmed-off (held old) words (linking old) (linking mid) (writing old) (writing mid) (Spoiled fault) refl warmed))
 
       pub warms-bad : (status : ℕ) (why : BadFrame) → status ≡ 8 → complaints new ≡ complained (bad_text why) (complaints mid) → Warmed (held old) words (linking old) (linking mid) (writing old) (writing mid) (BadMessage why) → WarmEnds old new status
       warms-bad status why is said warmed =
-          warm-ends status (frames-end status (inl is)) (λ steady schema script bytes are three. omega (arith, is, three)) (comes-bad (held old) words.client (Warmed (held old) words (linking old) (linking mid) (writing old) (writing mid)) (WarmedInPart (held old) words (linking old) (linking mid) (writing old) (writing mid))
+          warm-ends status (frames-end status (inl is)) (λ steady schema script bytes are three. omega (arith, is, three)) (λ steady four. omega (arith, is, four)) (comes-bad (held old) words.client (Warmed (held old) words (linking old) (linking mid) (writing old) (writing mid)) (WarmedInPart (held old) words (linking old) (linking mid) (writing old) (writing mid))
           (WarmedOff (held old) words (linking old) (linking mid) (writing old) (writing mid)) (SomeTooLong (held old) (reading mid).left (names_of words)) (complaints old) (complaints mid) (complaints new) silent status why is said warmed)
 
       pub warms-limit : (status : ℕ) → status ≡ 11 → Warmed (held old) words (linking old) (linking mid) (writing old) (writing mid) TooMany → WarmEnds old new status
       warms-limit status is warmed =
-          warm-ends status (inr (inr (inr (inr (inr (inr (inr (inr (inr is))))))))) (λ steady schema script bytes are three. omega (arith, is, three)) (comes-limit (held old) words.client (Warmed (held old) words (linking old) (linking mid) (writing old) (writing mid)) (WarmedInPart (held old) words (linking old) (linking mid) (writing old) (writing mid))
+          warm-ends status (inr (inr (inr (inr (inr (inr (inr (inr (inr is))))))))) (λ steady schema script bytes are three. omega (arith, is, three)) (λ steady four. omega (arith, is, four)) (comes-limit (held old) words.client (Warmed (held old) words (linking old) (linking mid) (writing old) (writing mid)) (WarmedInPart (held old) words (linking old) (linking mid) (writing old) (writing mid))
           (WarmedOff (held old) words (linking old) (linking mid) (writing old) (writing mid)) (SomeTooLong (held old) (reading mid).left (names_of words)) (complaints old) (complaints mid) (complaints new) silent status is warmed)
 
       -- what has a name did nothing
@@ -170,13 +175,14 @@ module _ (H : Type 0) (held : H → List ℕ → Option (List ℕ)) (reading : H
 
       pub warms-refused : (refusal : Refusal) (status : ℕ) → Reported refusal status (complaints mid) (complaints new) → Counts H reading writing linking old mid (Err refusal)
           → WarmStopsOver (held old) words (reading mid).left (linking old) (linking mid) (writing old) (writing mid) (Stopped (Refused refusal))
-          → (IsSteady old → refusal ≡ Read → (schema script bytes : List ℕ) → ¬ AreWarmHeld (held old) words schema script bytes) → WarmEnds old new status
-      warms-refused refusal status reported counts why reads =
+          → (IsSteady old → refusal ≡ Read → (schema script bytes : List ℕ) → ¬ AreWarmHeld (held old) words schema script bytes) → (IsSteady old → refusal ≢ Write) → WarmEnds old new status
+      warms-refused refusal status reported counts why reads writes =
           warm-ends status
           (refused-end (held old) words.client (Warmed (held old) words (linking old) (linking mid) (writing old) (writing mid)) (WarmedInPart (held old) words (linking old) (linking mid) (writing old) (writing mid))
           (WarmedOff (held old) words (linking old) (linking mid) (writing old) (writing mid)) (SomeTooLong (held old) (reading mid).left (names_of words))
           (complaints old) (complaints mid) (complaints new) silent refusal status reported why (warm-nothing refusal status reported counts))
           (λ steady schema script bytes are is. reads steady ((reported-is refusal status (complaints mid) (complaints new) reported).read is) schema script bytes are)
+          (λ steady is. writes steady ((reported-is refusal status (complaints mid) (complaints new) reported).write is))
           (comes-refused (held old) words.client (Warmed (held old) words (linking old) (linking mid) (writing old) (writing mid)) (WarmedInPart (held old) words (linking old) (linking mid) (writing old) (writing mid))
           (WarmedOff (held old) words (linking old) (linking mid) (writing old) (writing mid)) (SomeTooLong (held old) (reading mid).left (names_of words))
           (complaints old) (complaints mid) (complaints new) silent refusal status reported why (warm-nothing refusal status reported counts))
@@ -192,6 +198,7 @@ module _ (H : Type 0) (held : H → List ℕ → Option (List ℕ)) (reading : H
             comes = comes;
             steady = λ steady schema script bytes are.
                 fits-warmed (held old) words schema script bytes are (reading new) (linking old) (linking new) (writing old) (writing new) (complaints old) (complaints new) status comes (λ three. omega (arith, is, three)) (λ thirteen. (fault, none));
+            steady_writes = λ steady four. omega (arith, is, four);
             no_image = λ thirteen. record {
               fault = fault;
               none = none;
@@ -200,7 +207,7 @@ module _ (H : Type 0) (held : H → List ℕ → Option (List ℕ)) (reading : H
             };
           }
       warms-no-image status fault (inr (is, said)) (none, untouched) =
-          warm-ends status (inr (inr (inr (inr (inr (inr (inr (inl is)))))))) (λ steady schema script bytes are three. omega (arith, is, three)) (comes-wanting (held old) words.client (Warmed (held old) words (linking old) (linking mid) (writing old) (writing mid)) (WarmedInPart (held old) words (linking old) (linking mid) (writing old) (writing mid))
+          warm-ends status (inr (inr (inr (inr (inr (inr (inr (inl is)))))))) (λ steady schema script bytes are three. omega (arith, is, three)) (λ steady four. omega (arith, is, four)) (comes-wanting (held old) words.client (Warmed (held old) words (linking old) (linking mid) (writing old) (writing mid)) (WarmedInPart (held old) words (linking old) (linking mid) (writing old) (writing mid))
           (WarmedOff (held old) words (linking old) (linking mid) (writing old) (writing mid)) (SomeTooLong (held old) (reading mid).left (names_of words)) (complaints old) (complaints mid) (complaints new) silent status is (inl untouched))
 
   -- the image was refused, or there was no memory to say so

@@ -19,7 +19,7 @@ use Rattle.sr_cli.specs.Kinds.{AsksLines, fault_by, line_fault}
 use Rattle.sr_cli.specs.Leaves.{unread_of}
 use Rattle.sr_cli.specs.declared.file.ReadFault.{ReadFault}
 use Rattle.sr_cli.specs.declared.file.ReadFault.TheVariants as read
-use Rattle.sr_cli.specs.declared.report.Refusal.TheVariants.{Read}
+use Rattle.sr_cli.specs.declared.report.Refusal.TheVariants.{Read, Write}
 use Rattle.sr_cli.specs.declared.stop.Stop.TheVariants.{Refused}
 use Rattle.sr_cli.specs.declared.warm.WarmStop.TheVariants.{Stopped}
 use Rattle.sr_cli.proofs.ClientFits.{Accepted, Lies, Named, RefusesSome, fits_held}
@@ -123,3 +123,9 @@ warm-failed {T} read.TooLong is = absurd cc
 
 pub never-held : (held : Option (List ℕ)) (bytes : List ℕ) → held ≡ None → held ≡ Some bytes → ⊥
 never-held held bytes none some = let e : ◌≡◌ {A = Option (List ℕ)} None (Some bytes) = sym none ∙ some in cc
+
+-- and no line was to be written
+pub warm-unwritten : {T : Type 0} (cause : ReadFault) → IsErrOf {T = T} (Err (Stopped (Refused (unread_of cause)))) (Stopped (Refused Write)) → ⊥
+warm-unwritten {T} read.Fault is = cc
+warm-unwritten {T} read.NoMemory is = cc
+warm-unwritten {T} read.TooLong is = cc

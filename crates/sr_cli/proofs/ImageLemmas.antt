@@ -1,6 +1,6 @@
 -- How runs of `save` and `warm` come to their ends.
 use Rattle.std.proofs.Common.{◌≡◌, ◌≢◌, ℕ, ◌+◌, ◌≤◌, ◌<◌, ◌⊎◌, true, false, List, [], ◌∷◌, ◌++◌, take, flat_map, Option, Some, None, Ok, Err, inl, inr, refl, sym, ap, subst, arith, ◌∙◌, append-nil}
-use Rattle.std.specs.Prelude.{◌*◌, ◌^◌, Result, IfErr, IfOk, IsTrue, if◌then◌else◌}
+use Rattle.std.specs.Prelude.{◌*◌, ◌^◌, Result, IfErr, IfOk, IsErrOf, IsTrue, if◌then◌else◌}
 use Rattle.std.specs.Io.KnownBytes.{Appends}
 use Rattle.std.proofs.lemmas.List.Concat.{flat_map-cons}
 use Rattle.sr_calls.specs.ClientEnds.{End, room_of, setting_of}
@@ -376,6 +376,20 @@ unset-as E P X held words schema script (NoBut (setup.Line at place)) l w files 
     (record { schema = schema; script = script; files = files; first = line at place refl }, record { linking = refl; writing = refl })
 unset-as E P X held words schema script (NoBut (setup.Create at why)) l w files line create =
     (record { schema = schema; script = script; files = files; refuses = create at why refl }, record { linking = refl; writing = refl })
+
+-- and no line was to be written
+pub unset-never : {T : Type 0} (no : No ClientFault) → IsErrOf {T = T} (Err (stop_of no)) (stop.Refused refusal.Write) → ⊥
+unset-never {T} Wanting is = cc
+unset-never {T} (NoBut (setup.Line at place)) is = cc
+unset-never {T} (NoBut (setup.Create at why)) is = cc
+
+pub unset-never-warm : {T : Type 0} (no : No ClientFault) → IsErrOf {T = T} (Err (warm_stop.Stopped (stop_of no))) (warm_stop.Stopped (stop.Refused refusal.Write)) → ⊥
+unset-never-warm {T} Wanting is = cc
+unset-never-warm {T} (NoBut (setup.Line at place)) is = cc
+unset-never-warm {T} (NoBut (setup.Create at why)) is = cc
+
+pub same-stop : {T U : Type 0} (why : Stop) {other : Stop} → IsErrOf {T = T} (Err (warm_stop.Stopped why)) (warm_stop.Stopped other) → IsErrOf {T = U} (Err why) other
+same-stop {T} {U} why {other} is = let same : why ≡ other = cc in ap Err same
 
 -- ---- over a host
 

@@ -9,6 +9,7 @@ pub mod GenerateEnds
 pub mod ImageEnds
 pub mod ImageFits
 pub mod ImageLemmas
+pub mod LawLemmas
 pub mod LeavesLemmas
 pub mod LoadTexts
 pub mod OneFilling

@@ -280,12 +280,14 @@ pub record SavesOver (H : Type 0) (held : H → List ℕ → Option (List ℕ)) 
   pub only : IsEnd status
   pub comes : SavesBy (held old) words (reading new) (linking old) (linking new) (writing old) (writing new) (complaints old) (complaints new) status
   pub steady : IsSteady old → (schema script : List ℕ) → AreHeld (held old) words schema script → FitsFiles (fault_by words) schema script status
+  pub steady_writes : IsSteady old → ¬ (status ≡ 4)
 
 -- What `warm` does over a host, by the status that it ends with.
 pub record WarmsOver (H : Type 0) (held : H → List ℕ → Option (List ℕ)) (reading : H → Reading) (writing : H → Writing) (linking : H → Linking) (complaints : H → Option (List ℕ)) (IsSteady : H → Type 0) (old new : H) (words : WarmWords) (status : ℕ) : Type 0 where
   pub only : IsEnd status ⊎ (status ≡ 13)
   pub comes : WarmsBy (held old) words (reading new) (linking old) (linking new) (writing old) (writing new) (complaints old) (complaints new) status
   pub steady : IsSteady old → (schema script bytes : List ℕ) → AreWarmHeld (held old) words schema script bytes → FitsImage words.client.id schema script bytes status
+  pub steady_writes : IsSteady old → ¬ (status ≡ 4)
   pub no_image : status ≡ 13 → NamedImage (held old) words (linking old) (linking new) (writing old) (writing new) (complaints old) (complaints new)
 
 -- ---- inside the crate

@@ -6,6 +6,7 @@ pub mod Files
 pub mod Generate
 pub mod Image
 pub mod Kinds
+pub mod Laws
 pub mod Leaves
 pub mod Replay
 pub mod Seen

@@ -8,6 +8,7 @@ mod file;
 mod frames;
 mod generate;
 mod kinds;
+pub mod laws;
 mod loads;
 mod replay;
 mod report;

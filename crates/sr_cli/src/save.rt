@@ -1,6 +1,7 @@
 //! Running a script as a client of a server, and writing the image of what it holds then.
 ghost use Rattle.std.specs.Prelude.{◌≡◌, ◌≢◌, ◌<◌, ◌≤◌, ◌^◌, IfErr, IfOk, IsErrOf, IsTrue, OnErr, OnOk};
 ghost use Rattle.std.specs.List.{list_all};
+ghost use Rattle.sr_cell.specs.declared.list.No.TheVariants.{Refused as NoBut};
 ghost use Rattle.sr_dial.specs.Following.{Ahead};
 ghost use Rattle.sr_dial.specs.declared.ending.Ending.TheVariants.{Unwritten, Whole};
 ghost use Rattle.sr_image.specs.Spelling.{image_bytes};
@@ -10,7 +11,7 @@ ghost use Rattle.sr_words.specs.declared.command.ClientKind.TheVariants.{Client 
 ghost use Rattle.sr_cli.specs.Client.{AreNotHeld, CountsStop};
 ghost use Rattle.sr_cli.specs.Image.{AreShortFiles, BreaksQuietly, EndsQuietly, IsSaved, LeavesEnd, SavesOf, SavesOver, StopsQuietly, StopsSaving, StopsSavingFiles, StopsSavingOf, Wrote, WroteLeft, has_image, held_image};
 ghost use Rattle.sr_cli.specs.Leaves.{Leaves, OnlyRuns};
-ghost use Rattle.sr_cli.specs.declared.report.Refusal.TheVariants.{Read};
+ghost use Rattle.sr_cli.specs.declared.report.Refusal.TheVariants.{Read, Write};
 ghost use Rattle.sr_cli.specs.declared.stop.Stop.TheVariants.{Refused};
 
 use crate::client::read_files;
@@ -69,6 +70,7 @@ fn save_files<H: Host>(alloc: Global, words: &ClientWords, host: &mut H) -> Resu
     ensures whole { OnOk result (IsSaved H H.held H.linking H.writing host.old host.new words.now Whole) }
     ensures stopped { IfErr result (StopsSaving H H.held H.reading H.linking H.writing host.old host.new words.now) }
     ensures steady_reads { H.IsSteady host.old → IsErrOf result (Refused Read) → AreNotHeld (H.held host.old) words.now }
+    ensures steady_writes { H.IsSteady host.old → ¬ IsErrOf result (Refused Write) }
     ensures counts { CountsStop H H.reading H.writing H.linking host.old host.new result }
     ensures stays { OnlyRuns H H.held H.complaints H.IsSteady host.old host.new }
 {
@@ -93,6 +95,7 @@ fn save_read<H: Host>(
     requires files { AreShortFiles (H.held host.old) words.now files.now }
     ensures whole { OnOk result (IsSaved H H.held H.linking H.writing host.old host.new words.now Whole) }
     ensures stopped { IfErr result (StopsSavingFiles H H.held H.linking H.writing host.old host.new words.now) }
+    ensures steady_writes { H.IsSteady host.old → ¬ IsErrOf result (Refused Write) }
     ensures stays { OnlyOutput H H.reading H.held H.complaints H.IsSteady host.old host.new }
 {
     let set_up = set_up_client(
@@ -128,6 +131,7 @@ fn save_lines<H: Host, P: Plans>(
         → OnOk result (SavesOf H H.linking H.writing host.old host.new words.now schema.now ahead Whole) }
     ensures stopped { (ahead : Ahead) → P.follows schema.now plans.old ahead
         → IfErr result (StopsSavingOf H H.linking H.writing host.old host.new words.now schema.now ahead) }
+    ensures steady_writes { H.IsSteady host.old → ¬ IsErrOf result (Refused Write) }
     ensures stays { OnlyOutput H H.reading H.held H.complaints H.IsSteady host.old host.new }
 {
     match run_quietly(alloc, words, schema, plans, host) {
@@ -147,6 +151,7 @@ fn save_quiet<K: Sink>(
     requires quiet { quiet.ending ≢ Unwritten }
     ensures whole { OnOk result (EndsQuietly schema.now quiet.end quiet.ending (K.writing sink.old) (K.writing sink.new) Whole) }
     ensures stopped { IfErr result (StopsQuietly schema.now quiet.end quiet.ending (K.writing sink.old) (K.writing sink.new)) }
+    ensures steady_writes { K.IsSteady sink.old → ¬ IsErrOf result (Refused Write) }
     ensures linking_stays { K.linking sink.new ≡ K.linking sink.old }
     ensures stays { OnlyOutput K K.reading K.held K.complaints K.IsSteady sink.old sink.new }
 {
@@ -202,6 +207,7 @@ fn write_left<K: Sink>(
 ) -> Result<(), No<Failed>>
     requires rows { quiet.now.end.client.store.limits.rows ≤ 200000 }
     ensures wrote { WroteLeft (image_bytes schema.now (held_image quiet.now.end.client)) quiet.now.ending (K.writing sink.old) (K.writing sink.new) result }
+    ensures steady_writes { K.IsSteady sink.old → ¬ IsErrOf result (NoBut record {}) }
     ensures linking_stays { K.linking sink.new ≡ K.linking sink.old }
     ensures stays { OnlyOutput K K.reading K.held K.complaints K.IsSteady sink.old sink.new }
 {
@@ -221,6 +227,7 @@ fn write_held<K: Sink>(
 ) -> Result<(), No<Failed>>
     requires rows { end.now.client.store.limits.rows ≤ 200000 }
     ensures wrote { Wrote (image_bytes schema.now (held_image end.now.client)) (K.writing sink.old) (K.writing sink.new) result }
+    ensures steady_writes { K.IsSteady sink.old → ¬ IsErrOf result (NoBut record {}) }
     ensures linking_stays { K.linking sink.new ≡ K.linking sink.old }
     ensures stays { OnlyOutput K K.reading K.held K.complaints K.IsSteady sink.old sink.new }
 {
@@ -233,6 +240,7 @@ fn write_held<K: Sink>(
 /// Writes bytes, and leaves all else as it was.
 pub(crate) fn write_bytes<K: Sink>(bytes: &[u8], sink: &mut K) -> Result<(), No<Failed>>
     ensures wrote { Wrote bytes.now (K.writing sink.old) (K.writing sink.new) result }
+    ensures steady_writes { K.IsSteady sink.old → ¬ IsErrOf result (NoBut record {}) }
     ensures linking_stays { K.linking sink.new ≡ K.linking sink.old }
     ensures stays { OnlyOutput K K.reading K.held K.complaints K.IsSteady sink.old sink.new }
 {

@@ -16,7 +16,7 @@ ghost use Rattle.sr_words.specs.declared.command.ClientKind.TheVariants.{Client 
 ghost use Rattle.sr_cli.specs.Image.{AreNotWarmHeld, AreShortFiles, BeginsAs, CountsWarm, IsWarmed, RanOn, StopsOn, StopsWarming, StopsWarmingFiles, StopsWarmingOf, WarmsOf, WarmsOver, image_text, start_text};
 ghost use Rattle.sr_cli.specs.Files.{IsWhatIsHeld};
 ghost use Rattle.sr_cli.specs.Leaves.{Leaves, Names, OnlyComplains, OnlyRuns};
-ghost use Rattle.sr_cli.specs.declared.report.Refusal.TheVariants.{Read};
+ghost use Rattle.sr_cli.specs.declared.report.Refusal.TheVariants.{Read, Write};
 ghost use Rattle.sr_cli.specs.declared.stop.Stop.TheVariants.{Refused};
 ghost use Rattle.sr_cli.specs.declared.warm.WarmStop.TheVariants.{Stopped};
 
@@ -99,6 +99,7 @@ fn warm_files<H: Host>(alloc: Global, words: &WarmWords, host: &mut H) -> Result
     ensures whole { OnOk result (IsWarmed H H.held H.linking H.writing host.old host.new words.now Whole) }
     ensures stopped { IfErr result (StopsWarming H H.held H.reading H.linking H.writing host.old host.new words.now) }
     ensures steady_reads { H.IsSteady host.old → IsErrOf result (Stopped (Refused Read)) → AreNotWarmHeld (H.held host.old) words.now }
+    ensures steady_writes { H.IsSteady host.old → ¬ IsErrOf result (Stopped (Refused Write)) }
     ensures counts { CountsWarm H H.reading H.writing H.linking host.old host.new result }
     ensures stays { OnlyRuns H H.held H.complaints H.IsSteady host.old host.new }
 {
@@ -127,6 +128,7 @@ fn warm_read<H: Host>(
     requires image { IsWhatIsHeld (H.held host.old words.now.image) read.now.image }
     ensures whole { OnOk result (IsWarmed H H.held H.linking H.writing host.old host.new words.now Whole) }
     ensures stopped { IfErr result (StopsWarmingFiles H H.held H.linking H.writing host.old host.new words.now) }
+    ensures steady_writes { H.IsSteady host.old → ¬ IsErrOf result (Stopped (Refused Write)) }
     ensures stays { OnlyOutput H H.reading H.held H.complaints H.IsSteady host.old host.new }
 {
     let set_up = set_up_client(
@@ -180,6 +182,7 @@ fn warm_from<H: Host, P: Plans>(
         → OnOk result (WarmsOf H H.linking H.writing host.old host.new words.now schema.now ahead bytes Whole) }
     ensures stopped { (bytes : List ℕ) (ahead : Ahead) → image_in schema.now bytes ≡ Ok image → P.follows schema.now plans.old ahead
         → IfErr result (StopsWarmingOf H H.linking H.writing host.old host.new words.now schema.now ahead bytes) }
+    ensures steady_writes { H.IsSteady host.old → ¬ IsErrOf result (Refused Write) }
     ensures stays { OnlyOutput H H.reading H.held H.complaints H.IsSteady host.old host.new }
 {
     match begin(alloc, words, schema, image) {
@@ -204,6 +207,7 @@ fn warm_begun<H: Host, P: Plans>(
         → OnOk result (WarmsOf H H.linking H.writing host.old host.new words.now schema.now ahead bytes Whole) }
     ensures stopped { (bytes : List ℕ) (ahead : Ahead) → BeginsAs words.now schema.now bytes (string_bytes begun.text) begun.end → P.follows schema.now plans.old ahead
         → IfErr result (StopsWarmingOf H H.linking H.writing host.old host.new words.now schema.now ahead bytes) }
+    ensures steady_writes { H.IsSteady host.old → ¬ IsErrOf result (Refused Write) }
     ensures stays { OnlyOutput H H.reading H.held H.complaints H.IsSteady host.old host.new }
 {
     let Begun { mut end, text } = begun;
@@ -231,6 +235,7 @@ fn warm_on<H: Host, P: Plans>(
         → OnOk result (RanOn H H.linking H.writing host.old host.new end.old past words.now.address ahead end.new Whole) }
     ensures stopped { (past : Past) (ahead : Ahead) → StandsFor past end.old.client → past.cut ≡ true → past.out ≡ None → P.follows schema.now plans.old ahead
         → IfErr result (StopsOn H H.linking H.writing host.old host.new end.old past words.now.address ahead end.new) }
+    ensures steady_writes { H.IsSteady host.old → ¬ IsErrOf result (Refused Write) }
     ensures stays { OnlyOutput H H.reading H.held H.complaints H.IsSteady host.old host.new }
 {
     let address = words.address.as_str();

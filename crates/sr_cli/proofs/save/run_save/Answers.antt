@@ -16,7 +16,7 @@ returns-in-Err-Refused-clause-saves g c =
     let refused = c.in-Err-Refused.ensures in
     saves-refused _ g.H.Outside.held g.H.Outside.reading g.H.Outside.writing g.H.Outside.linking g.H.Outside.complaints g.H.Outside.IsSteady c.args.words.now c.requires.kind c.args.host.now c.save_files.new.host c.report.new.host
     c.save_files.ensures.stays.complaints_stay c.report.ensures.stays c.in-Err-Refused.refusal c.report.result c.report.ensures.reported (rw is at refused.counts) (rw is at refused.stopped)
-    (λ steady named. refused.steady_reads steady (ap Err (is ∙ ap Refused named)))
+    (λ steady named. refused.steady_reads steady (ap Err (is ∙ ap Refused named))) (λ steady named. refused.steady_writes steady (ap Err (is ∙ ap Refused named)))
 
 pub returns-in-Err-Refused-clause-leaves : goal.returns-in-Err-Refused-clause-leaves
 returns-in-Err-Refused-clause-leaves g c =

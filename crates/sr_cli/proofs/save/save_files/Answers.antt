@@ -6,7 +6,7 @@ use Rattle.sr_cli.specs.Client.{AreFiles, files_of}
 use Rattle.sr_cli.specs.Image.{SaveStopsFiles, SaveStopsOver}
 use Rattle.sr_cli.specs.Leaves.{NotRead}
 use Rattle.sr_cli.specs.declared.stop.Stop.TheVariants.{Refused}
-use Rattle.sr_cli.proofs.Endings.{stop-failed}
+use Rattle.sr_cli.proofs.Endings.{stop-failed, stop-unwritten}
 use Rattle.sr_cli.proofs.ImageLemmas.{counts-saved, stops-over}
 use Rattle.sr_cli.proofs.LeavesLemmas.{counts-unread, err-of, unread-as}
 use Rattle.sr_cli.proofs.save.save_files.Goals as goal
@@ -71,3 +71,9 @@ returns-in-Ok-clause-steady_reads g c = λ steady failed schema script are. absu
 pub returns-in-Err-clause-steady_reads : goal.returns-in-Err-clause-steady_reads
 returns-in-Err-clause-steady_reads g c = λ steady failed schema script are.
     c.in-Err.ensures.steady steady (ap Err (stop-failed c.in-Err.fault (rw c.unread.ensures at failed))) schema script are
+
+pub returns-in-Ok-clause-steady_writes : goal.returns-in-Ok-clause-steady_writes
+returns-in-Ok-clause-steady_writes g c = λ steady. c.save_read.ensures.steady_writes (c.read_files.ensures.stays.stays_steady steady)
+
+pub returns-in-Err-clause-steady_writes : goal.returns-in-Err-clause-steady_writes
+returns-in-Err-clause-steady_writes g c = λ steady failed. stop-unwritten c.in-Err.fault (rw c.unread.ensures at failed)

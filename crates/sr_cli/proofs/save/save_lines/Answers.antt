@@ -49,3 +49,9 @@ returns-in-Err-clause-stopped g c = λ ahead follows. by (c.in-Err.ensures.broke
     by : {U N S : Type 0} → U ⊎ N → U ⊎ (N ⊎ S)
     by {U} {N} {S} (inl none) = inl none
     by {U} {N} {S} (inr off) = inr (inl off)
+
+pub returns-in-Ok-clause-steady_writes : goal.returns-in-Ok-clause-steady_writes
+returns-in-Ok-clause-steady_writes g c = λ steady. c.save_quiet.ensures.steady_writes (c.run_quietly.ensures.stays.stays_steady steady)
+
+pub returns-in-Err-clause-steady_writes : goal.returns-in-Err-clause-steady_writes
+returns-in-Err-clause-steady_writes g c = λ steady failed. cc

@@ -5,7 +5,7 @@ use Rattle.sr_reader.specs.declared.script.EventLine.{EventLine}
 use Rattle.sr_cli.specs.Image.{Asked, SaveStops, SaveStopsFiles, Saved, SavedInPart, SavesOff}
 use Rattle.sr_cli.specs.Kinds.{line_fault}
 use Rattle.sr_cli.proofs.ClientLemmas.{some_ahead}
-use Rattle.sr_cli.proofs.ImageLemmas.{asked-stops, unset-as}
+use Rattle.sr_cli.proofs.ImageLemmas.{asked-stops, unset-as, unset-never}
 use Rattle.sr_cli.proofs.save.save_read.Goals as goal
 
 pub returns-in-Err-clause-stopped : goal.returns-in-Err-clause-stopped
@@ -56,3 +56,6 @@ returns-clause-stopped g c =
     IfErr-weaker c.save_lines.result (SaveStops words c.in-Ok.set_up.schema some.0 old new before after) (SaveStopsFiles held words old new before after)
     (asked-stops held words files.schema files.script c.requires.files.are c.in-Ok.set_up.schema some.0 some.1 old new before after)
     (c.save_lines.ensures.stopped some.0 (subst (λ (lines : List EventLine). AreAhead c.in-Ok.set_up.schema lines some.0) (sym c.new-lines.ensures) some.2))
+
+pub returns-in-Err-clause-steady_writes : goal.returns-in-Err-clause-steady_writes
+returns-in-Err-clause-steady_writes g c = λ steady failed. unset-never c.in-Err.no (rw c.stop_of.ensures at failed)

@@ -18,6 +18,7 @@ returns-in-Err-Stopped-Refused-clause-warms g c =
     warms-refused _ g.H.Outside.held g.H.Outside.reading g.H.Outside.writing g.H.Outside.linking g.H.Outside.complaints g.H.Outside.IsSteady c.args.words.now c.args.host.now c.warm_files.new.host c.report.new.host
     c.warm_files.ensures.stays.complaints_stay c.report.ensures.stays c.in-Err-Stopped-Refused.refusal c.report.result c.report.ensures.reported (rw is at refused.counts) (rw is at refused.stopped)
     (λ steady named. refused.steady_reads steady (ap Err (is ∙ ap (λ x. Stopped (Refused x)) named)))
+    (λ steady named. refused.steady_writes steady (ap Err (is ∙ ap (λ x. Stopped (Refused x)) named)))
 
 pub returns-in-Err-Stopped-Refused-clause-leaves : goal.returns-in-Err-Stopped-Refused-clause-leaves
 returns-in-Err-Stopped-Refused-clause-leaves g c =

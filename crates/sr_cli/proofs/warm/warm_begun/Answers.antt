@@ -53,3 +53,9 @@ pub returns-clause-stopped : goal.returns-clause-stopped
 returns-clause-stopped g c = λ bytes ahead b follows.
     inr (inr (warms-only c.args.words.now c.args.schema.now ahead bytes _ c.args.begun.end b WritesOff (g.H.Outside.linking c.args.host.now) (g.H.Outside.linking c.write_bytes.new.sink)
     (g.H.Outside.writing c.args.host.now) (g.H.Outside.writing c.write_bytes.new.sink) c.write_bytes.ensures.linking_stays (rw c.as_bytes.ensures.value at c.in-Err-NoMemory.ensures.wrote)))
+
+pub returns-in-Ok-clause-steady_writes : goal.returns-in-Ok-clause-steady_writes
+returns-in-Ok-clause-steady_writes g c = λ steady. c.warm_on.ensures.steady_writes (c.write_bytes.ensures.stays.stays_steady steady)
+
+pub returns-in-Err-Refused-clause-steady_writes : goal.returns-in-Err-Refused-clause-steady_writes
+returns-in-Err-Refused-clause-steady_writes g c = λ steady failed. (rw c.in-Err-Refused.field-0-is at c.in-Err-Refused.ensures.steady_writes) steady refl

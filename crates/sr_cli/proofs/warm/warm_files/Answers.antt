@@ -7,7 +7,7 @@ use Rattle.sr_cli.specs.Image.{WarmStopsFiles, WarmStopsOver, names_of}
 use Rattle.sr_cli.specs.Leaves.{NotRead}
 use Rattle.sr_cli.specs.declared.stop.Stop.TheVariants.{Refused}
 use Rattle.sr_cli.specs.declared.warm.WarmStop.TheVariants.{Stopped}
-use Rattle.sr_cli.proofs.ImageFits.{never-held, warm-failed}
+use Rattle.sr_cli.proofs.ImageFits.{never-held, warm-failed, warm-unwritten}
 use Rattle.sr_cli.proofs.ImageLemmas.{counts-warmed, warm-over}
 use Rattle.sr_cli.proofs.LeavesLemmas.{behind-not-read, counts-unread, err-of, front-not-read, unread-as}
 use Rattle.sr_cli.proofs.warm.warm_files.Goals as goal
@@ -130,3 +130,13 @@ returns-in-Err-read_file-clause-steady_reads g c = λ steady failed schema scrip
     let failing = ap Err (warm-failed c.in-Err-read_file.fault (rw c.unread-in-Err-read_file.ensures at failed)) in
     let none = rw (c.read_files.ensures.stays.held_stays, c.as_str.ensures) at (c.in-Err-read_file.ensures.steady (c.read_files.ensures.stays.stays_steady steady) failing) in
     never-held _ _ none are.image_held
+
+pub returns-in-Ok-read_file-clause-steady_writes : goal.returns-in-Ok-read_file-clause-steady_writes
+returns-in-Ok-read_file-clause-steady_writes g c = λ steady.
+    c.warm_read.ensures.steady_writes (c.read_file.ensures.stays.stays_steady (c.read_files.ensures.stays.stays_steady steady))
+
+pub returns-in-Err-clause-steady_writes : goal.returns-in-Err-clause-steady_writes
+returns-in-Err-clause-steady_writes g c = λ steady failed. warm-unwritten c.in-Err.fault (rw c.unread.ensures at failed)
+
+pub returns-in-Err-read_file-clause-steady_writes : goal.returns-in-Err-read_file-clause-steady_writes
+returns-in-Err-read_file-clause-steady_writes g c = λ steady failed. warm-unwritten c.in-Err-read_file.fault (rw c.unread-in-Err-read_file.ensures at failed)

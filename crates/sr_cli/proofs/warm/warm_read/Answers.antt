@@ -6,7 +6,7 @@ use Rattle.sr_image.specs.Reading.{image_in}
 use Rattle.sr_cli.specs.Image.{AskedOver, Warmed, WarmedInPart, Warms, WarmsOff}
 use Rattle.sr_cli.specs.Kinds.{line_fault}
 use Rattle.sr_cli.proofs.ClientLemmas.{some_ahead}
-use Rattle.sr_cli.proofs.ImageLemmas.{unset-as, warm-asked, warm-stops}
+use Rattle.sr_cli.proofs.ImageLemmas.{same-stop, unset-as, unset-never-warm, warm-asked, warm-stops}
 use Rattle.sr_cli.proofs.warm.warm_read.Goals as goal
 
 pub returns-in-Err-clause-stopped : goal.returns-in-Err-clause-stopped
@@ -69,3 +69,9 @@ returns-clause-stopped g c =
 
 pub warm_from-requires-clause-read : goal.warm_from-requires-clause-read
 warm_from-requires-clause-read g c = (c.args.read.now.image, rw c.as_slice-3.ensures at c.in-Ok-image_over.ensures.is)
+
+pub returns-in-Err-clause-steady_writes : goal.returns-in-Err-clause-steady_writes
+returns-in-Err-clause-steady_writes g c = λ steady failed. unset-never-warm c.in-Err.no (rw c.stop_of.ensures at failed)
+
+pub returns-clause-steady_writes : goal.returns-clause-steady_writes
+returns-clause-steady_writes g c = λ steady failed. c.in-Err-warm_from.ensures.steady_writes steady (same-stop c.in-Err-warm_from.stop failed)

@@ -1,5 +1,5 @@
 -- What the status of `save` and `warm` says of the files that are held.
-use Rattle.std.proofs.Common.{◌≡◌, ℕ, ◌⊎◌, List, Option, Some, None, Ok, Err, inl, inr, refl, sym, ap, subst, ◌∙◌}
+use Rattle.std.proofs.Common.{◌≡◌, ℕ, ◌⊎◌, List, Option, Some, None, Ok, Err, inl, inr, refl, sym, subst, ◌∙◌}
 use Rattle.std.specs.Prelude.{IsErrOf}
 use Rattle.sr_cell.specs.declared.table.Table.{Table}
 use Rattle.sr_dial.specs.Following.{Ahead}
@@ -12,7 +12,7 @@ use Rattle.sr_io.specs.Told.{Reading, Writing, Linking}
 use Rattle.sr_words.specs.declared.command.ClientKind.TheVariants as kind
 use Rattle.sr_words.specs.declared.command.ClientWords.{ClientWords}
 use Rattle.sr_words.specs.declared.command.WarmWords.{WarmWords}
-use Rattle.sr_cli.specs.Client.{AreHeld, AreLong, DidRun, FitsFiles, IsEnd, NamedCreate, NamedLine, files_of}
+use Rattle.sr_cli.specs.Client.{AreHeld, AreLong, DidRun, FitsFiles, IsEnd, NamedCreate, NamedLine}
 use Rattle.sr_cli.specs.Files.{IsLong, SomeTooLong}
 use Rattle.sr_cli.specs.Image.{AreWarmHeld, Asked, AskedOf, AskedOver, FitsImage, IsNoImage, SavesBy, Warms, WarmsBy, WarmsUnwritten, names_of}
 use Rattle.sr_cli.specs.Kinds.{AsksLines, fault_by, line_fault}

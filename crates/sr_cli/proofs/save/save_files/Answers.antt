@@ -2,7 +2,7 @@ use Rattle.std.proofs.Common.{List, ℕ, Option, Err, inl, sym, ap, subst, ◌�
 use Rattle.std.specs.Prelude.{IfErr}
 use Rattle.sr_io.specs.Told.{Linking, Writing}
 use Rattle.std.proofs.lemmas.Result.{IfErr-weaker}
-use Rattle.sr_cli.specs.Client.{AreFiles, files_of}
+use Rattle.sr_cli.specs.Client.{files_of}
 use Rattle.sr_cli.specs.Image.{SaveStopsFiles, SaveStopsOver}
 use Rattle.sr_cli.specs.Leaves.{NotRead}
 use Rattle.sr_cli.specs.declared.stop.Stop.TheVariants.{Refused}

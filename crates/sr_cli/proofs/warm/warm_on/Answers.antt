@@ -1,5 +1,5 @@
-use Rattle.std.proofs.Common.{◌≡◌, ◌+◌, ◌≤◌, List, ℕ, refl, sym, subst, ◌∙◌}
-use Rattle.std.specs.Prelude.{◌*◌, Some}
+use Rattle.std.proofs.Common.{◌≡◌, List, refl, sym, subst, ◌∙◌}
+use Rattle.std.specs.Prelude.{Some}
 use Rattle.std.proofs.lemmas.Result.{on_ok_weaker, IfErr-weaker}
 use Rattle.sr_cell.specs.declared.table.Table.{Table}
 use Rattle.sr_dial.specs.declared.ending.Ending.{Ending}

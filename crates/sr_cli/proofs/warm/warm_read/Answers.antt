@@ -1,4 +1,4 @@
-use Rattle.std.proofs.Common.{◌≡◌, ◌<◌, ◌^◌, List, Err, inl, length, arith, refl, sym, ap, subst}
+use Rattle.std.proofs.Common.{◌≡◌, ◌<◌, ◌^◌, List, Err, length, arith, refl, sym, ap, subst}
 use Rattle.sr_dial.specs.Jobs.{AreAhead}
 use Rattle.sr_reader.specs.declared.script.EventLine.{EventLine}
 use Rattle.sr_dial.specs.declared.ending.Ending.TheVariants.{Whole}

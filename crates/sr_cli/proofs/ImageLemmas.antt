@@ -503,7 +503,10 @@ module _ (words : ClientWords) (tables : List Table) (ahead : Ahead) (bytes text
       ran = subst (λ (e : End). RanOff e past words.address (Next 0 (Do Resumed) ahead) old new mid after) by.end_is off;
     }
 
-    pub warms-stopped : WritesAll text before mid → (why : Stop) → StopsAs RunsOn (RunsOn Unwritten) BreaksOn ⊥ ⊥ (λ line place. ⊥) (λ line fault. ⊥) why → WarmStops words tables ahead bytes old new before after why
+    abbrev pub StopsThere : Stop → Type 0
+    StopsThere why = StopsAs RunsOn (RunsOn Unwritten) BreaksOn ⊥ ⊥ (λ line place. ⊥) (λ line fault. ⊥) why
+
+    pub warms-stopped : WritesAll text before mid → (why : Stop) → StopsThere why → WarmStops words tables ahead bytes old new before after why
     warms-stopped said =
         stops-map RunsOn (λ e. Warms words tables ahead bytes e old new before after) (RunsOn Unwritten) (WarmsUnwritten words tables ahead bytes old new before after)
         BreaksOn (Untouched old new before after ⊎ WarmsOff words tables ahead bytes old new before after) ⊥ ⊥ ⊥ ⊥ (λ line place. ⊥) (λ line place. ⊥) (λ line fault. ⊥) (λ line fault. ⊥)

@@ -3,6 +3,7 @@ use Rattle.sr_dial.specs.Jobs.{AreAhead}
 use Rattle.sr_reader.specs.declared.script.EventLine.{EventLine}
 use Rattle.sr_dial.specs.declared.ending.Ending.TheVariants.{Whole}
 use Rattle.sr_image.specs.Reading.{image_in}
+use Rattle.sr_image.specs.declared.image.ImageFault.{ImageFault}
 use Rattle.sr_cli.specs.Image.{AskedOver, Warmed, WarmedInPart, Warms, WarmsOff}
 use Rattle.sr_cli.specs.Kinds.{line_fault}
 use Rattle.sr_cli.proofs.ClientLemmas.{some_ahead}
@@ -41,7 +42,9 @@ returns-in-Err-Refused-clause-stopped g c =
     let held = g.H.Outside.held c.args.host.now in
     let asked = rw (c.as_slice.ensures, c.as_slice-2.ensures) at c.in-Ok.ensures.asked in
     let some = some_ahead words.client.id files.schema files.script c.in-Ok.set_up.schema c.in-Ok.set_up.lines asked in (
-      warm-asked held words files.schema files.script c.args.read.now.image c.requires.files.are c.requires.image c.in-Ok.set_up.schema some.0 some.1 (λ t a b. image_in t b ≡ Err c.in-Err-Refused.fault) (rw (c.in-Err-Refused.field-0-is, c.as_slice-3.ensures) at c.in-Err-Refused.ensures.is),
+      subst (λ (fault : ImageFault). AskedOver held words (λ t a b. image_in t b ≡ Err fault)) (sym c.in-Err-Refused.fault-is)
+      (warm-asked held words files.schema files.script c.args.read.now.image c.requires.files.are c.requires.image c.in-Ok.set_up.schema some.0 some.1
+      (λ t a b. image_in t b ≡ Err c.in-Err-Refused.fault) (rw (c.in-Err-Refused.field-0-is, c.as_slice-3.ensures) at c.in-Err-Refused.ensures.is)),
       record { linking = refl; writing = refl },
     )
 

@@ -43,8 +43,8 @@ returns-in-Err-Refused-clause-stopped g c =
     let asked = rw (c.as_slice.ensures, c.as_slice-2.ensures) at c.in-Ok.ensures.asked in
     let some = some_ahead words.client.id files.schema files.script c.in-Ok.set_up.schema c.in-Ok.set_up.lines asked in (
       subst (λ (fault : ImageFault). AskedOver held words (λ t a b. image_in t b ≡ Err fault)) (sym c.in-Err-Refused.fault-is)
-      (warm-asked held words files.schema files.script c.args.read.now.image c.requires.files.are c.requires.image c.in-Ok.set_up.schema some.0 some.1
-      (λ t a b. image_in t b ≡ Err c.in-Err-Refused.fault) (rw (c.in-Err-Refused.field-0-is, c.as_slice-3.ensures) at c.in-Err-Refused.ensures.is)),
+          (warm-asked held words files.schema files.script c.args.read.now.image c.requires.files.are c.requires.image c.in-Ok.set_up.schema some.0 some.1
+          (λ t a b. image_in t b ≡ Err c.in-Err-Refused.fault) (rw (c.in-Err-Refused.field-0-is, c.as_slice-3.ensures) at c.in-Err-Refused.ensures.is)),
       record { linking = refl; writing = refl },
     )
 

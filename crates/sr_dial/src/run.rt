@@ -42,8 +42,8 @@ fn start<H: Host, C: Asks>(
 ) -> Result<Handed, NoMemory>
     requires asks { (task : Task) × IsJob (C.setting client.old).schema job task }
     requires room { 2 ≤ C.room client.old }
-    ensures started { StartsJob C.Asks H.linking H.writing result schema.now address.now job host.old host.new feed.old feed.new client.old client.new }
-    ensures broken_off { JobOff C.Asks H.linking H.writing result schema.now address.now job host.old host.new feed.old client.old }
+    ensures started { StartsJob C.Asks H.linking H.writing H.IsSteady result schema.now address.now job host.old host.new feed.old feed.new client.old client.new }
+    ensures broken_off { JobOff C.Asks H.linking H.writing H.IsSteady result schema.now address.now job host.old host.new feed.old client.old }
     ensures setting { C.setting client.new ≡ C.setting client.old }
     ensures draws { C.room client.old ≤ C.room client.new + 2 }
     ensures stays { OnlyOutput H H.reading H.held H.complaints H.IsSteady host.old host.new }
@@ -67,8 +67,8 @@ fn start_line<H: Host, C: Asks>(
 ) -> Result<Handed, NoMemory>
     requires asks { (task : Task) × IsTask (C.setting client.old).schema line.event task }
     requires room { 2 ≤ C.room client.old }
-    ensures started { StartsLine C.Asks H.linking H.writing result schema.now address.now line host.old host.new feed.old feed.new client.old client.new }
-    ensures broken_off { LineOff C.Asks H.linking H.writing result schema.now address.now line host.old host.new feed.old client.old }
+    ensures started { StartsLine C.Asks H.linking H.writing H.IsSteady result schema.now address.now line host.old host.new feed.old feed.new client.old client.new }
+    ensures broken_off { LineOff C.Asks H.linking H.writing H.IsSteady result schema.now address.now line host.old host.new feed.old client.old }
     ensures setting { C.setting client.new ≡ C.setting client.old }
     ensures draws { C.room client.old ≤ C.room client.new + 2 }
     ensures stays { OnlyOutput H H.reading H.held H.complaints H.IsSteady host.old host.new }
@@ -111,8 +111,8 @@ fn run_job<H: Host, C: Asks>(
 ) -> Result<LineEnd, NoMemory>
     requires asks { (task : Task) × IsJob (C.setting client.old).schema job task }
     requires room { 4000004 ≤ C.room client.old }
-    ensures ended { EndsJob C.Asks H.linking H.writing result schema.now address.now job host.old host.new feed.old feed.new client.old client.new }
-    ensures broken_off { JobOff C.Asks H.linking H.writing result schema.now address.now job host.old host.new feed.old client.old }
+    ensures ended { EndsJob C.Asks H.linking H.writing H.IsSteady result schema.now address.now job host.old host.new feed.old feed.new client.old client.new }
+    ensures broken_off { JobOff C.Asks H.linking H.writing H.IsSteady result schema.now address.now job host.old host.new feed.old client.old }
     ensures setting { C.setting client.new ≡ C.setting client.old }
     ensures draws { C.room client.old ≤ C.room client.new + 4000004 }
     ensures stays { OnlyOutput H H.reading H.held H.complaints H.IsSteady host.old host.new }
@@ -134,8 +134,8 @@ fn finish<H: Host, C: Asks>(
     handed: Handed,
 ) -> Result<LineEnd, NoMemory>
     requires room { 4000002 ≤ C.room client.old }
-    ensures ended { EndsHanded C.Asks H.linking H.writing result schema.now number handed host.old host.new feed.old feed.new client.old client.new }
-    ensures broken_off { HandedOff C.Asks H.linking H.writing result schema.now number handed host.old host.new feed.old client.old }
+    ensures ended { EndsHanded C.Asks H.linking H.writing H.IsSteady result schema.now number handed host.old host.new feed.old feed.new client.old client.new }
+    ensures broken_off { HandedOff C.Asks H.linking H.writing H.IsSteady result schema.now number handed host.old host.new feed.old client.old }
     ensures setting { C.setting client.new ≡ C.setting client.old }
     ensures draws { C.room client.old ≤ C.room client.new + 4000002 }
     ensures stays { OnlyOutput H H.reading H.held H.complaints H.IsSteady host.old host.new }
@@ -158,8 +158,8 @@ fn settle<H: Host, C: Asks>(
     number: u64,
 ) -> Result<LineEnd, NoMemory>
     requires room { 4000002 ≤ C.room client.old }
-    ensures ended { Settles C.Asks H.linking H.writing result schema.now number host.old host.new feed.old feed.new client.old client.new }
-    ensures broken_off { AwaitsOff C.Asks H.linking H.writing result schema.now number host.old host.new feed.old client.old }
+    ensures ended { Settles C.Asks H.linking H.writing H.IsSteady result schema.now number host.old host.new feed.old feed.new client.old client.new }
+    ensures broken_off { AwaitsOff C.Asks H.linking H.writing H.IsSteady result schema.now number host.old host.new feed.old client.old }
     ensures setting { C.setting client.new ≡ C.setting client.old }
     ensures draws { C.room client.old ≤ C.room client.new + 4000002 }
     ensures stays { OnlyOutput H H.reading H.held H.complaints H.IsSteady host.old host.new }
@@ -184,8 +184,8 @@ fn failed<H: Host, C: Asks>(
     number: u64,
 ) -> Result<LineEnd, NoMemory>
     requires room { 2 ≤ C.room client.old }
-    ensures ended { EndsFailed C.Asks H.linking H.writing result schema.now number host.old host.new client.old client.new }
-    ensures broken_off { FailedOff C.Asks H.linking H.writing result schema.now number host.old host.new client.old }
+    ensures ended { EndsFailed C.Asks H.linking H.writing H.IsSteady result schema.now number host.old host.new client.old client.new }
+    ensures broken_off { FailedOff C.Asks H.linking H.writing H.IsSteady result schema.now number host.old host.new client.old }
     ensures setting { C.setting client.new ≡ C.setting client.old }
     ensures draws { C.room client.old ≤ C.room client.new + 2 }
     ensures stays { OnlyOutput H H.reading H.held H.complaints H.IsSteady host.old host.new }
@@ -257,8 +257,8 @@ fn first_line<H: Host, C: Asks>(
     address: &str,
 ) -> Result<LineEnd, NoMemory>
     requires room { 4000004 ≤ C.room client.old }
-    ensures ended { EndsFirst C.Asks H.linking H.writing result schema.now address.now host.old host.new feed.new client.old client.new }
-    ensures broken_off { FirstOff C.Asks H.linking H.writing result schema.now address.now host.old host.new client.old }
+    ensures ended { EndsFirst C.Asks H.linking H.writing H.IsSteady result schema.now address.now host.old host.new feed.new client.old client.new }
+    ensures broken_off { FirstOff C.Asks H.linking H.writing H.IsSteady result schema.now address.now host.old host.new client.old }
     ensures setting { C.setting client.new ≡ C.setting client.old }
     ensures draws { C.room client.old ≤ C.room client.new + 4000004 }
     ensures stays { OnlyOutput H H.reading H.held H.complaints H.IsSteady host.old host.new }

@@ -6,6 +6,10 @@ pub mod Endings
 pub mod ExplainFits
 pub mod FitsLemmas
 pub mod GenerateEnds
+pub mod ImageEnds
+pub mod ImageFits
+pub mod ImageLemmas
+pub mod LawLemmas
 pub mod LeavesLemmas
 pub mod LoadTexts
 pub mod OneFilling

@@ -4,7 +4,9 @@ pub mod Errors
 pub mod Explain
 pub mod Files
 pub mod Generate
+pub mod Image
 pub mod Kinds
+pub mod Laws
 pub mod Leaves
 pub mod Replay
 pub mod Seen

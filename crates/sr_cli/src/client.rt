@@ -54,7 +54,11 @@ fn client_files<H: Host>(alloc: Global, words: &ClientWords, host: &mut H) -> Re
 }
 
 /// Reads the schema file, and then the script. The first that cannot be read or is too long ends it.
-fn read_files<H: Host>(alloc: Global, words: &ClientWords, host: &mut H) -> Result<Files, ReadFault>
+pub(crate) fn read_files<H: Host>(
+    alloc: Global,
+    words: &ClientWords,
+    host: &mut H,
+) -> Result<Files, ReadFault>
     ensures read { IfOk result (λ files. AreFiles (H.held host.old) words.now files.schema files.script) }
     ensures schema { IfOk result (λ files. length files.schema < 2 ^ 32) }
     ensures script { IfOk result (λ files. length files.script < 2 ^ 32) }

@@ -1,5 +1,5 @@
 -- A client resumes.
-use Rattle.std.proofs.Common.{◌≡◌, ℕ, Bool, true, false, List, [], ◌∷◌, ◌++◌, arith, append-nil, refl, sym, ◌∙◌, ap, subst, Option, Some, None, option_map, option_to_list}
+use Rattle.std.proofs.Common.{◌≡◌, ℕ, Bool, true, false, List, [], ◌∷◌, ◌++◌, arith, append-nil, refl, sym, ◌∙◌, ap, subst, Option, Some, None, option_map, option_to_list, length}
 use Rattle.std.specs.Prelude.{◌≢◌, ◌||◌, IfSome, flat_map, take}
 use Rattle.std.specs.List.{list_any}
 use Rattle.std.proofs.lemmas.List.Elements.{All-append, All-cons, All-nil}
@@ -18,10 +18,11 @@ use Rattle.sr_talk.specs.Serving.{RoseBy, spelled}
 use Rattle.sr_dial.specs.Carrying.{spoken}
 use Rattle.sr_dial.specs.Known.{Setting, Makes}
 use Rattle.sr_dial.specs.Runs.{IsCarried, IsToldIf, SendsMost, left_by, none_taken}
-use Rattle.sr_dial.specs.Courses.{At, Broken, Course, IsThere, Rests, Start, Stepped}
+use Rattle.sr_dial.specs.Courses.{At, Broken, Course, IsThere, Rests, Start, Steadily, Stepped}
 use Rattle.sr_dial.proofs.ListLemmas.{all-one, any-one, calls-one, dialled-one, told-one}
 use Rattle.sr_dial.proofs.CourseLemmas.{count-still, done_of, made-of, past-one, step_of, stepped-one}
 use Rattle.sr_dial.proofs.BrokenLemmas.{IsShort, most-part, short-breaks}
+use Rattle.sr_dial.proofs.SteadyLemmas.{length-one, steadily-more, steadily-peer}
 use Rattle.sr_dial.proofs.ToldLemmas.{still-other, still-same, told-first, told-more, told-none}
 use Rattle.sr_dial.specs.declared.parts.Answer.{Answer}
 use Rattle.sr_dial.specs.Following.{Ahead}
@@ -35,7 +36,7 @@ told-fresh P address bytes None each = tt
 told-fresh P address bytes (Some []) each = tt
 told-fresh P address bytes (Some (coming ∷ more)) each = each coming
 
-module _ (C : Type 0) (Stands : C → Client → Type 0) (lent : C → Option Answer) (IsOf : Standing C) (Has : Holding C) (k : Setting) (s : Start C) where
+module _ {Z : Type 0} (C : Type 0) (Stands : C → Client → Type 0) (lent : C → Option Answer) (IsOf : Standing C) (Has : Holding C) (k : Setting) (s : Start C Z) where
   -- where the link is cut the present call is over
   pub rests-of : (ahead : Ahead) (line : ℕ) (came : Count) (failed : Bool) (l : Linking) (P : List ℕ → Type 0) (feed : List ℕ) (code : C) (h : At C Stands lent IsOf Has k s ahead line came failed l P feed code)
       → (left_by s.past (h.course.earlier ++ h.course.call ∷ [])).cut ≡ true → Rests C Stands lent IsOf Has k s ahead line failed l P code
@@ -54,6 +55,7 @@ module _ (C : Type 0) (Stands : C → Client → Type 0) (lent : C → Option An
     came = came;
     steps = h.course.steps;
     cut = down;
+    steadily = subst (λ n. Steadily Z (count_faults (h.course.earlier ++ h.course.call ∷ [])) n s.linking l) (sym (length-one h.course.earlier h.course.call)) h.steadily;
   }
 
   module _ (ahead further : Ahead) (line number : ℕ) (failed : Bool) (P Q : List ℕ → Type 0) (l : Linking) (code new : C) (lines : List TraceLine) (sent : List Message)
@@ -116,6 +118,9 @@ module _ (C : Type 0) (Stands : C → Client → Type 0) (lent : C → Option An
           failed_is = any-one r.calls (new_call true false (option_map (sends (spelled sent)) (next_peer (Some s.address) l.peers))) ∙ (or-none (list_any fails r.calls) ∙ r.failed_is);
           calm = λ no. ap (λ (x : Linking). x.faults) is ∙ r.calm no;
           peers_stay = still-other s.linking l new_l (ap (λ (x : Linking). x.peers) is) r.peers_stay;
+          up = λ still_up. ap (λ (x : Linking). x.is_up) is;
+          steadily = steadily-more Z (count_faults r.calls) (count_faults (r.calls ++ new_call true false (option_map (sends (spelled sent)) (next_peer (Some s.address) l.peers)) ∷ [])) (length r.calls) s.linking l new_l
+              (count-still r.calls (new_call true false (option_map (sends (spelled sent)) (next_peer (Some s.address) l.peers))) refl) (ap (λ (x : Linking). x.faults) is) (ap (λ (x : Linking). x.peers) is) r.steadily;
         }
 
     not-free : (connected torn : Bool) (told : Option Connection)
@@ -138,8 +143,10 @@ module _ (C : Type 0) (Stands : C → Client → Type 0) (lent : C → Option An
           peers_stay = still-same s.linking l new_l only.peers r.peers_stay;
         }
 
-    pub begin-fails : (new_l : Linking) → OnlyFaults l new_l → Rose l.faults new_l.faults → Broken C Stands lent IsOf Has k s further number new_l Q [] new
-    begin-fails new_l only rose = short-breaks C Stands lent IsOf Has k s further number l new_l Q [] new (begin-alone new_l only) rose
+    pub begin-fails : (new_l : Linking) → OnlyFaults l new_l → Rose l.faults new_l.faults → (Z → l.peers ≡ Some []) → Broken C Stands lent IsOf Has k s further number new_l Q [] new
+    unfolding begin-alone
+    begin-fails new_l only rose last =
+        short-breaks C Stands lent IsOf Has k s further number l new_l Q [] new (begin-alone new_l only) rose (steadily-peer Z (count_faults r.calls) 0 (length r.calls) s.linking l new_l last r.steadily)
 
     -- the message is cut short
     pub begin-short : (new_l : Linking) → (l.peers ≡ Some [] → ⊥) → SendsPart (connected_at (Some s.address) l) new_l (spelled sent) → IsShort C Stands lent IsOf Has k s further number l new_l Q [] new
@@ -159,5 +166,6 @@ module _ (C : Type 0) (Stands : C → Client → Type 0) (lent : C → Option An
           peers_stay = still-other s.linking l new_l part.sent.peers r.peers_stay;
         }
 
-    pub begin-breaks : (new_l : Linking) → (l.peers ≡ Some [] → ⊥) → SendsPart (connected_at (Some s.address) l) new_l (spelled sent) → Rose l.faults new_l.faults → Broken C Stands lent IsOf Has k s further number new_l Q [] new
-    begin-breaks new_l more part rose = short-breaks C Stands lent IsOf Has k s further number l new_l Q [] new (begin-short new_l more part) rose
+    pub begin-breaks : (new_l : Linking) → (l.peers ≡ Some [] → ⊥) → SendsPart (connected_at (Some s.address) l) new_l (spelled sent) → Rose l.faults new_l.faults → (Z → ⊥) → Broken C Stands lent IsOf Has k s further number new_l Q [] new
+    begin-breaks new_l more part rose never =
+        short-breaks C Stands lent IsOf Has k s further number l new_l Q [] new (begin-short new_l more part) rose (λ z more enough. never z)

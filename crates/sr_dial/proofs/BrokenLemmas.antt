@@ -27,6 +27,8 @@ use Rattle.sr_dial.specs.Runs.{IsInPlace, SendsMost, SentAs, left_by, more_taken
 use Rattle.sr_dial.specs.Courses.{At, Broken, Course, Free, IsThere, Start, Stepped, TellsStill}
 use Rattle.sr_dial.proofs.ListLemmas.{all-one, any-one, count-one, fails-one, told-one}
 use Rattle.sr_dial.proofs.CourseLemmas.{course-one, done_of, given-step, made-of, map-told, not-torn, weaken-told, or-no, past-step, requests-step, with_step, count-still}
+use Rattle.sr_dial.proofs.SteadyLemmas.{steadily-on}
+use Rattle.sr_talk.specs.Rounds.{HasPeers}
 use Rattle.sr_dial.proofs.ToldLemmas.{still-same, told-on, told-same}
 use Rattle.sr_dial.specs.declared.parts.Answer.{Answer}
 use Rattle.sr_dial.specs.Following.{Ahead}
@@ -90,7 +92,7 @@ pub or-yes : (a : Bool) → (a || true) ≡ true
 or-yes true = refl
 or-yes false = refl
 
-module _ (C : Type 0) (Stands : C → Client → Type 0) (lent : C → Option Answer) (IsOf : Standing C) (Has : Holding C) (k : Setting) (s : Start C) where
+module _ {Z : Type 0} (C : Type 0) (Stands : C → Client → Type 0) (lent : C → Option Answer) (IsOf : Standing C) (Has : Holding C) (k : Setting) (s : Start C Z) where
   -- ---- a connection that went short of something, whether or not a fault is counted for it
 
   pub record IsShort (ahead : Ahead) (line : ℕ) (l new_l : Linking) (P : List ℕ → Type 0) (feed : List ℕ) (code : C) : Type 0 where
@@ -104,11 +106,12 @@ module _ (C : Type 0) (Stands : C → Client → Type 0) (lent : C → Option An
     pub peers_stay : TellsStill s.linking new_l
 
   -- where one is, the link failed
-  pub short-breaks : (ahead : Ahead) (line : ℕ) (l new_l : Linking) (P : List ℕ → Type 0) (feed : List ℕ) (code : C) → IsShort ahead line l new_l P feed code → Rose l.faults new_l.faults → Broken C Stands lent IsOf Has k s ahead line new_l P feed code
-  short-breaks ahead line l new_l P feed code h rose =
+  pub short-breaks : (ahead : Ahead) (line : ℕ) (l new_l : Linking) (P : List ℕ → Type 0) (feed : List ℕ) (code : C) (h : IsShort ahead line l new_l P feed code) → Rose l.faults new_l.faults
+      → (Z → (more : ℕ) → HasPeers (length h.course.earlier + 1 + more) s.linking → ⊥) → Broken C Stands lent IsOf Has k s ahead line new_l P feed code
+  short-breaks ahead line l new_l P feed code h rose never =
       let before = h.before in
       let once = one-at-most (is_fault h.course.call) in
-      record { came = h.came; course = h.course; sent = h.sent; faults = omega (arith, before, rose, once); made = h.made; out = h.out; not_yet = h.not_yet; peers_stay = h.peers_stay }
+      record { came = h.came; course = h.course; sent = h.sent; faults = omega (arith, before, rose, once); made = h.made; out = h.out; not_yet = h.not_yet; peers_stay = h.peers_stay; steadily = λ z more enough. absurd (never z more enough) }
 
   -- ---- bytes that are taken
 
@@ -155,6 +158,9 @@ module _ (C : Type 0) (Stands : C → Client → Type 0) (lent : C → Option An
           failed_is = any-one h.course.earlier read_call ∙ (sym (any-one h.course.earlier h.course.call) ∙ h.failed_is);
           calm = λ no. ap (λ (x : Linking). x.faults) r.is ∙ h.calm no;
           peers_stay = still-same s.linking l new_l (ap (λ (x : Linking). x.peers) r.is) h.peers_stay;
+          up = λ still_up. ap (λ (x : Linking). x.is_up) r.is ∙ h.up up;
+          steadily = steadily-on Z (count_faults (h.course.earlier ++ h.course.call ∷ [])) (count_faults (h.course.earlier ++ read_call ∷ [])) (length h.course.earlier + 1) s.linking l new_l
+              (count-still h.course.earlier read_call there.2 ∙ sym (count-still h.course.earlier h.course.call there.2)) (ap (λ (x : Linking). x.faults) r.is) (ap (λ (x : Linking). x.peers) r.is) h.steadily;
         }
 
     -- the client is the one before
@@ -166,8 +172,8 @@ module _ (C : Type 0) (Stands : C → Client → Type 0) (lent : C → Option An
   module _ (ahead : Ahead) (line : ℕ) (came : Count) (failed : Bool) (l : Linking) (P : List ℕ → Type 0) (feed : List ℕ) (code : C) (h : At C Stands lent IsOf Has k s ahead line came failed l P feed code)
       (up : (left_by s.past (h.course.earlier ++ h.course.call ∷ [])).cut ≡ false) (out : (left_by s.past (h.course.earlier ++ h.course.call ∷ [])).out ≢ None) where
     -- a fault is counted
-    pub fault-breaks : (new_l : Linking) → OnlyFaults l new_l → Rose l.faults new_l.faults → Broken C Stands lent IsOf Has k s ahead line new_l P feed code
-    fault-breaks new_l only rose =
+    pub fault-breaks : (new_l : Linking) → OnlyFaults l new_l → Rose l.faults new_l.faults → (Z → ⊥) → Broken C Stands lent IsOf Has k s ahead line new_l P feed code
+    fault-breaks new_l only rose never =
         let there = subst (λ b. IsThere b h.course.earlier h.course.call s.linking l) up h.there in
         let before = h.faults in
         let none = count-still h.course.earlier h.course.call there.2 in
@@ -181,6 +187,7 @@ module _ (C : Type 0) (Stands : C → Client → Type 0) (lent : C → Option An
           out = out;
           not_yet = there.2;
           peers_stay = still-same s.linking l new_l only.peers h.peers_stay;
+          steadily = λ z more enough. absurd (never z);
         }
 
     not-coming : (told : Option Connection) → IsOver told → is_coming told ≡ false
@@ -204,6 +211,8 @@ module _ (C : Type 0) (Stands : C → Client → Type 0) (lent : C → Option An
           out = out;
           not_yet = there.2;
           peers_stay = h.peers_stay;
+          steadily = steadily-on Z (count_faults (h.course.earlier ++ h.course.call ∷ [])) (count_faults h.course.earlier + one_if (is_fault h.course.call)) (length h.course.earlier + 1) s.linking l l
+              (subst (λ b. count_faults h.course.earlier + one_if b ≡ count_faults (h.course.earlier ++ h.course.call ∷ [])) (sym no_fault) (omega (arith, none))) refl refl h.steadily;
         }
 
   module _ (ahead further : Ahead) (line : ℕ) (came : Count) (number : ℕ) (cause : Cause) (P Q : List ℕ → Type 0) (code new : C) (deed : Deed) (lines : List TraceLine) (sent : List Message)
@@ -262,8 +271,9 @@ module _ (C : Type 0) (Stands : C → Client → Type 0) (lent : C → Option An
         (m : Makes Stands lent IsOf Has k code new (left_by s.past (h.course.earlier ++ h.course.call ∷ [])) deed lines sent)
         → IsInPlace k.schema cause line number deed (left_by s.past (h.course.earlier ++ h.course.call ∷ [])) → StaysOn (left_by s.past (h.course.earlier ++ h.course.call ∷ [])) deed
         → is_failed cause ≡ false → (left_by s.past (h.course.earlier ++ h.course.call ∷ [])).cut ≡ false → feed ≡ spelled (taken_by deed) ++ left
-        → SendsPart l new_l (spelled sent) → Rose l.faults new_l.faults → Broken C Stands lent IsOf Has k s further number new_l Q left new
-    send-breaks failed l new_l feed left h m place stays not_failed up fed part rose = short-breaks further number l new_l Q left new (send-short failed l new_l feed left h m place stays not_failed up fed part) rose
+        → SendsPart l new_l (spelled sent) → Rose l.faults new_l.faults → (Z → ⊥) → Broken C Stands lent IsOf Has k s further number new_l Q left new
+    send-breaks failed l new_l feed left h m place stays not_failed up fed part rose never =
+        short-breaks further number l new_l Q left new (send-short failed l new_l feed left h m place stays not_failed up fed part) rose (λ z more enough. never z)
 
   -- ---- the client is cut, and the connection given up
 
@@ -303,6 +313,10 @@ module _ (C : Type 0) (Stands : C → Client → Type 0) (lent : C → Option An
               ∙ (ap (λ y. list_any fails b.course.earlier || y) fails-yes ∙ or-yes (list_any fails b.course.earlier));
           calm = λ no. absurd (let wrong : true ≡ false = no in cc);
           peers_stay = b.peers_stay;
+          up = λ still_up. absurd (let wrong : true ≡ false =
+              sym (ap (λ (c : Client). c.cut) (past-step s.past b.course.earlier b.course.call (done_of C Stands lent IsOf Has k s line Failed m) b.course.call.torn b.course.call.told b.course.call.left) ∙ m.link.0) ∙ still_up in cc);
+          steadily = steadily-on Z (count_faults b.course.earlier + one_if (is_fault b.course.call))
+              (count_faults (b.course.earlier ++ with_step b.course.call (done_of C Stands lent IsOf Has k s line Failed m) b.course.call.torn b.course.call.told b.course.call.left ∷ [])) (length b.course.earlier + 1) s.linking l (hung_up l) count refl refl b.steadily;
         };
         free = ap (λ (c : Client). c.out) (past-step s.past b.course.earlier b.course.call (done_of C Stands lent IsOf Has k s line Failed m) b.course.call.torn b.course.call.told b.course.call.left) ∙ m.rests m.link.0;
       }

@@ -1,5 +1,5 @@
 -- A run, one step more.
-use Rattle.std.proofs.Common.{◌≡◌, ℕ, ◌+◌, ◌≤◌, Bool, true, false, List, [], ◌∷◌, ◌++◌, arith, append_assoc, append-nil, refl, sym, ◌∙◌, ap, subst, Option, Some, None, option_map, option_to_list}
+use Rattle.std.proofs.Common.{◌≡◌, ℕ, ◌+◌, ◌≤◌, Bool, true, false, List, [], ◌∷◌, ◌++◌, arith, append_assoc, append-nil, length, refl, sym, ◌∙◌, ap, subst, Option, Some, None, option_map, option_to_list}
 use Rattle.std.specs.Prelude.{◌≢◌, ◌&&◌, ◌||◌, IfSome, flat_map}
 use Rattle.std.specs.List.{list_any, All}
 use Rattle.std.proofs.lemmas.Grind.{flat_map-append}
@@ -20,6 +20,7 @@ use Rattle.sr_dial.specs.Known.{IsFrom, Setting, Makes, said_by}
 use Rattle.sr_dial.specs.Runs.{IsInPlace, IsToldIf, SentAs, left_by, more_taken, none_taken}
 use Rattle.sr_dial.specs.Courses.{At, Course, IsThere, Start, Stepped}
 use Rattle.sr_dial.proofs.ListLemmas.{all-one, any-one, code-append, count-one, explained-append, fails-one, fair-append, few-append, given-append, lawful-append, line-append, on-append, past-append, place-append, requests-append, steps-append, taken-append, told-one}
+use Rattle.sr_dial.proofs.SteadyLemmas.{steadily-on}
 use Rattle.sr_dial.proofs.ToldLemmas.{still-same, told-on, told-same}
 use Rattle.sr_dial.specs.declared.parts.Answer.{Answer}
 use Rattle.sr_dial.specs.Following.{Ahead}
@@ -121,7 +122,7 @@ module _ {C : Type 0} where
       ∙ (ap (λ x. x ++ option_to_list call.told) past
       ∙ (append_assoc (connections old) (calls_told E) (option_to_list call.told) ∙ ap (λ x. connections old ++ x) (sym (told-one E call))))
 
-module _ (C : Type 0) (Stands : C → Client → Type 0) (lent : C → Option Answer) (IsOf : Standing C) (Has : Holding C) (k : Setting) (s : Start C) where
+module _ {Z : Type 0} (C : Type 0) (Stands : C → Client → Type 0) (lent : C → Option Answer) (IsOf : Standing C) (Has : Holding C) (k : Setting) (s : Start C Z) where
   -- a step that was made
   abbrev pub step_of : {code new : C} {c : Client} {deed : Deed} {lines : List TraceLine} {sent : List Message} → Makes Stands lent IsOf Has k code new c deed lines sent → Step C
   step_of {code} {new} {c} {deed} {lines} {sent} m = record { deed = deed; outcome = m.outcome; past = m.next; code = new }
@@ -235,6 +236,10 @@ module _ (C : Type 0) (Stands : C → Client → Type 0) (lent : C → Option An
                 ∙ (ap (λ b. list_any fails h.course.earlier || b) same ∙ (sym (any-one h.course.earlier h.course.call) ∙ h.failed_is));
             calm = λ no. ap (λ (x : Linking). x.faults) is ∙ h.calm no;
             peers_stay = still-same s.linking l new_l (ap (λ (x : Linking). x.peers) is) h.peers_stay;
+            up = λ still_up. ap (λ (x : Linking). x.is_up) is ∙ h.up up;
+            steadily = steadily-on Z (count_faults (h.course.earlier ++ h.course.call ∷ [])) (count_faults (h.course.earlier ++ with_step h.course.call (done_of number cause m) h.course.call.torn (option_map (sends (spelled sent)) h.course.call.told) left ∷ [])) (length h.course.earlier + 1) s.linking l new_l
+                (count-still h.course.earlier (with_step h.course.call (done_of number cause m) h.course.call.torn (option_map (sends (spelled sent)) h.course.call.told) left) fails-no ∙ sym (count-still h.course.earlier h.course.call there.2))
+                (ap (λ (x : Linking). x.faults) is) (ap (λ (x : Linking). x.peers) is) h.steadily;
           }
 
       -- nothing went over the link, which is down then
@@ -273,4 +278,8 @@ module _ (C : Type 0) (Stands : C → Client → Type 0) (lent : C → Option An
                 ∙ (ap (λ b. list_any fails h.course.earlier || b) fails-same ∙ (sym (any-one h.course.earlier h.course.call) ∙ h.failed_is));
             calm = λ no. quiet ∙ h.calm no;
             peers_stay = still-same s.linking l new_l same_peers h.peers_stay;
+            up = λ still_up. absurd (let wrong : true ≡ false =
+                sym (ap (λ (c : Client). c.cut) (past-step s.past h.course.earlier h.course.call (done_of number cause m) h.course.call.torn h.course.call.told h.course.call.left) ∙ down) ∙ still_up in cc);
+            steadily = steadily-on Z (count_faults (h.course.earlier ++ h.course.call ∷ []))
+                (count_faults (h.course.earlier ++ with_step h.course.call (done_of number cause m) h.course.call.torn h.course.call.told h.course.call.left ∷ [])) (length h.course.earlier + 1) s.linking l new_l count quiet same_peers h.steadily;
           }

@@ -25,7 +25,7 @@ pub most-of : (b : Bool) (ms : List Message) (bytes : List ℕ) → ms ≢ [] �
 most-of true ms bytes some sent = sent
 most-of false ms bytes some sent = subst (SendsMost ms) (sym sent) (most-all ms some)
 
-module _ (C : Type 0) (Stands : C → Client → Type 0) (lent : C → Option Answer) (IsOf : Standing C) (Has : Holding C) (k : Setting) (s : Start C) (ahead : Ahead) (line : ℕ) (came : Count) (l : Linking) (feed : List ℕ) (code : C) where
+module _ {Z : Type 0} (C : Type 0) (Stands : C → Client → Type 0) (lent : C → Option Answer) (IsOf : Standing C) (Has : Holding C) (k : Setting) (s : Start C Z) (ahead : Ahead) (line : ℕ) (came : Count) (l : Linking) (feed : List ℕ) (code : C) where
   -- the lines of a step are not written, all else of it was done
   pub unwritten-at : (w : Writing) (failed : Bool) → At C Stands lent IsOf Has k s ahead line came failed l (IsPartWritten k.says s w) feed code → Over C Stands lent IsOf Has k s ending.Unwritten l w code
   unwritten-at w failed h = record {
@@ -52,6 +52,7 @@ module _ (C : Type 0) (Stands : C → Client → Type 0) (lent : C → Option An
     each_told = told-more s.linking.peers h.course.earlier h.course.call h.course.before_told h.course.is_told;
     made = made-of (left_by s.past (h.course.earlier ++ h.course.call ∷ [])).cut h.course.earlier h.course.call s.linking l h.there;
     faults = h.faults;
+    steadily = h.steadily;
     ends = λ rest. tt;
     writes = h.course.steps.writes;
   }
@@ -84,6 +85,7 @@ module _ (C : Type 0) (Stands : C → Client → Type 0) (lent : C → Option An
         each_told = told-more s.linking.peers b.course.earlier b.course.call b.course.before_told b.course.is_told;
         made = b.made;
         faults = omega (arith, before, none);
+        steadily = λ z more enough. let calm = b.steadily z more enough in let zero = calm.0 in (omega (arith, zero, none), calm.1, calm.2);
         ends = λ rest. tt;
         writes = b.course.steps.writes;
       }
@@ -111,6 +113,7 @@ module _ (C : Type 0) (Stands : C → Client → Type 0) (lent : C → Option An
     each_told = told-more s.linking.peers h.course.earlier h.course.call h.course.before_told h.course.is_told;
     made = made-of (left_by s.past (h.course.earlier ++ h.course.call ∷ [])).cut h.course.earlier h.course.call s.linking l h.there;
     faults = h.faults;
+    steadily = h.steadily;
     ends = λ rest. subst (λ x. EndsBy ended k.schema (h.course.earlier ++ h.course.call ∷ []) (left_by s.past (h.course.earlier ++ h.course.call ∷ [])) x rest) (sym h.course.left) (ends rest);
     writes = writes (flat_map (said_by k) (all_done (h.course.earlier ++ h.course.call ∷ []))) h.course.steps.writes;
   }

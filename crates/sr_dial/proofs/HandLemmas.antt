@@ -30,16 +30,16 @@ use Rattle.sr_plan.specs.Plans.{Next}
 use Rattle.sr_dial.proofs.PlanLemmas.{GoesOn}
 use Rattle.sr_dial.specs.declared.waiting.Count.{Count}
 
-module _ {C : Type 0} (says : Bool) (s : Start C) (w new_w : Writing) (text : List ℕ) where
+module _ {C Z : Type 0} (says : Bool) (s : Start C Z) (w new_w : Writing) (text : List ℕ) where
   pub wrote : SaysAs says true w new_w text → (texts : List ℕ) → IsWritten s w texts → IsWritten s new_w (texts ++ spoken says text)
   wrote (is, same) texts (before, faults) = (Appends-append s.writing.written w.written new_w.written texts (spoken says text) before is, same ∙ faults)
 
-pub half : {C : Type 0} (says : Bool) (s : Start C) (w new_w : Writing) (text : List ℕ) → SaysAs says false w new_w text → (texts : List ℕ) → IsWritten s w texts → IsPartWritten says s new_w (texts ++ spoken says text)
-half {C} true s w new_w text (spoke, part, rose) texts (before, faults) =
+pub half : {C Z : Type 0} (says : Bool) (s : Start C Z) (w new_w : Writing) (text : List ℕ) → SaysAs says false w new_w text → (texts : List ℕ) → IsWritten s w texts → IsPartWritten says s new_w (texts ++ spoken says text)
+half {C} {Z} true s w new_w text (spoke, part, rose) texts (before, faults) =
     (spoke, prefix-behind s.writing.written w.written new_w.written texts text before part, subst (λ n. Rose n new_w.faults) faults rose)
-half {C} false s w new_w text (spoke, part, rose) texts written = absurd (let wrong : false ≡ true = spoke in cc)
+half {C} {Z} false s w new_w text (spoke, part, rose) texts written = absurd (let wrong : false ≡ true = spoke in cc)
 
-module _ (C : Type 0) (Stands : C → Client → Type 0) (lent : C → Option Answer) (IsOf : Standing C) (Has : Holding C) (k : Setting) (s : Start C) (ahead further : Ahead) (line : ℕ) (came : Count) (number : ℕ) (cause : Cause) (code new : C) (deed : Deed) (lines : List TraceLine) (sent : List Message)
+module _ {Z : Type 0} (C : Type 0) (Stands : C → Client → Type 0) (lent : C → Option Answer) (IsOf : Standing C) (Has : Holding C) (k : Setting) (s : Start C Z) (ahead further : Ahead) (line : ℕ) (came : Count) (number : ℕ) (cause : Cause) (code new : C) (deed : Deed) (lines : List TraceLine) (sent : List Message)
     (on : GoesOn cause ahead (lent code) number deed further) (most : (more_taken cause sent came).taken ≤ 1000000) (failed : Bool) (l new_l : Linking) (w new_w : Writing) (feed left : List ℕ) (h : At C Stands lent IsOf Has k s ahead line came failed l (IsWritten s w) feed code)
     (m : Makes Stands lent IsOf Has k code new (left_by s.past (h.course.earlier ++ h.course.call ∷ [])) deed lines sent)
     (place : IsInPlace k.schema cause line number deed (left_by s.past (h.course.earlier ++ h.course.call ∷ []))) (stays : StaysOn (left_by s.past (h.course.earlier ++ h.course.call ∷ [])) deed)
@@ -48,18 +48,20 @@ module _ (C : Type 0) (Stands : C → Client → Type 0) (lent : C → Option An
   text = flat_map (line_text k.schema number) lines
 
   -- over a link that is up
-  pub hands-up : (handed : Handed) → (left_by s.past (h.course.earlier ++ h.course.call ∷ [])).cut ≡ false → m.next.cut ≡ false → feed ≡ spelled (taken_by deed) ++ left
+  pub hands-up : (handed : Handed) → (Z → l.is_up ≡ true → handed ≡ Whole) → (left_by s.past (h.course.earlier ++ h.course.call ∷ [])).cut ≡ false → m.next.cut ≡ false → feed ≡ spelled (taken_by deed) ++ left
       → Carries k.says handed l new_l w new_w (spelled sent) (flat_map (line_text k.schema number) lines) → Hands C Stands lent IsOf Has k handed s further number (more_taken cause sent came) failed new_l new_w left new
-  hands-up Whole up still fed (is, says) =
+  hands-up Whole calm up still fed (is, says) =
       at-up C Stands lent IsOf Has k s ahead further line came number cause (IsWritten s w) (IsWritten s new_w) code new deed lines sent on most (wrote k.says s w new_w text says) failed l new_l feed left h m place stays not_failed up still fed is
-  hands-up Broken up still fed ((part, rose), says) =
+  hands-up Broken calm up still fed ((part, rose), says) =
       send-breaks C Stands lent IsOf Has k s ahead further line came number cause (IsWritten s w) (IsWritten s new_w) code new deed lines sent on most (wrote k.says s w new_w text says) failed l new_l feed left h m place stays not_failed up fed part rose
-  hands-up Unwritten up still fed (inl is, says) =
+      (λ z. absurd (let wrong : Broken ≡ Whole = calm z (h.up up) in cc))
+  hands-up Unwritten calm up still fed (inl is, says) =
       unwritten-at C Stands lent IsOf Has k s further number (more_taken cause sent came) new_l left new new_w failed
       (at-up C Stands lent IsOf Has k s ahead further line came number cause (IsWritten s w) (IsPartWritten k.says s new_w) code new deed lines sent on most (half k.says s w new_w text says) failed l new_l feed left h m place stays not_failed up still fed is)
-  hands-up Unwritten up still fed (inr (part, rose), says) =
+  hands-up Unwritten calm up still fed (inr (part, rose), says) =
       unwritten-broken C Stands lent IsOf Has k s further number (more_taken cause sent came) new_l left new new_w
-      (send-breaks C Stands lent IsOf Has k s ahead further line came number cause (IsWritten s w) (IsPartWritten k.says s new_w) code new deed lines sent on most (half k.says s w new_w text says) failed l new_l feed left h m place stays not_failed up fed part rose)
+      (send-breaks C Stands lent IsOf Has k s ahead further line came number cause (IsWritten s w) (IsPartWritten k.says s new_w) code new deed lines sent on most (half k.says s w new_w text says) failed l new_l feed left h m place stays not_failed up fed part rose
+      (λ z. absurd (let wrong : Unwritten ≡ Whole = calm z (h.up up) in cc)))
 
   -- where it is down then
   pub hands-down : (handed : Handed) (mid : Linking) → m.next.cut ≡ true → sent ≡ [] → taken_by deed ≡ [] → connections mid ≡ connections l → mid.peers ≡ l.peers → mid.faults ≡ l.faults
@@ -121,11 +123,11 @@ down-silent {C} Stands lent IsOf Has k code new c deed lines sent m down up = by
     by (inl none) = m.sent_is ∙ none
     by (inr (x, one)) = absurd (let no : true ≡ false = sym down ∙ up (λ none. absurd (let wrong : x ∷ [] ≡ [] = sym (m.sent_is ∙ one) ∙ none in cc)) in cc)
 
-pub plain-hands : (C : Type 0) (Stands : C → Client → Type 0) (lent : C → Option Answer) (IsOf : Standing C) (Has : Holding C) (k : Setting) (s : Start C) (ahead further : Ahead) (line number : ℕ) (failed : Bool) (l new_l : Linking) (w new_w : Writing) (feed : List ℕ) (code new : C)
-    (deed : Deed) (lines : List TraceLine) (sent : List Message) (handed : Handed) (h : Free C Stands lent IsOf Has k s ahead line failed l (IsWritten s w) feed code) → IsPlain deed → ahead (lent code) ≡ Next number (Do deed) further
+pub plain-hands : {Z : Type 0} (C : Type 0) (Stands : C → Client → Type 0) (lent : C → Option Answer) (IsOf : Standing C) (Has : Holding C) (k : Setting) (s : Start C Z) (ahead further : Ahead) (line number : ℕ) (failed : Bool) (l new_l : Linking) (w new_w : Writing) (feed : List ℕ) (code new : C)
+    (deed : Deed) (lines : List TraceLine) (sent : List Message) (handed : Handed) (calm : Z → l.is_up ≡ true → handed ≡ Whole) (h : Free C Stands lent IsOf Has k s ahead line failed l (IsWritten s w) feed code) → IsPlain deed → ahead (lent code) ≡ Next number (Do deed) further
     → Makes Stands lent IsOf Has k code new (left_by s.past (h.at.course.earlier ++ h.at.course.call ∷ [])) deed lines sent
     → Carries k.says handed l new_l w new_w (spelled sent) (flat_map (line_text k.schema number) lines) → Hands C Stands lent IsOf Has k handed s further number none_taken failed new_l new_w feed new
-plain-hands C Stands lent IsOf Has k s ahead further line number failed l new_l w new_w feed code new deed lines sent handed h plain on m carries =
+plain-hands {Z} C Stands lent IsOf Has k s ahead further line number failed l new_l w new_w feed code new deed lines sent handed calm h plain on m carries =
     by (left_by s.past (h.at.course.earlier ++ h.at.course.call ∷ [])).cut refl
   where
     link : (m.next.cut ≡ (left_by s.past (h.at.course.earlier ++ h.at.course.call ∷ [])).cut) × (sent ≢ [] → (left_by s.past (h.at.course.earlier ++ h.at.course.call ∷ [])).cut ≡ false)
@@ -133,7 +135,7 @@ plain-hands C Stands lent IsOf Has k s ahead further line number failed l new_l 
 
     by : (cut : Bool) → (left_by s.past (h.at.course.earlier ++ h.at.course.call ∷ [])).cut ≡ cut → Hands C Stands lent IsOf Has k handed s further number none_taken failed new_l new_w feed new
     by false up =
-        hands-up C Stands lent IsOf Has k s ahead further line h.came number Scripted code new deed lines sent on (omega arith) failed l new_l w new_w feed feed h.at m h.free (plain-stays deed (left_by s.past (h.at.course.earlier ++ h.at.course.call ∷ [])) plain) refl handed up (link.0 ∙ up)
+        hands-up C Stands lent IsOf Has k s ahead further line h.came number Scripted code new deed lines sent on (omega arith) failed l new_l w new_w feed feed h.at m h.free (plain-stays deed (left_by s.past (h.at.course.earlier ++ h.at.course.call ∷ [])) plain) refl handed calm up (link.0 ∙ up)
         (ap (λ ms. spelled ms ++ feed) (sym (plain-none deed plain))) carries
     by true down =
         hands-down C Stands lent IsOf Has k s ahead further line h.came number Scripted code new deed lines sent on (omega arith) failed l new_l w new_w feed feed h.at m h.free (plain-stays deed (left_by s.past (h.at.course.earlier ++ h.at.course.call ∷ [])) plain) refl handed l (link.0 ∙ down)
@@ -141,12 +143,12 @@ plain-hands C Stands lent IsOf Has k s ahead further line number failed l new_l 
 
 -- ---- a line that cuts the link
 
-pub cut-hands : (C : Type 0) (Stands : C → Client → Type 0) (lent : C → Option Answer) (IsOf : Standing C) (Has : Holding C) (k : Setting) (s : Start C) (ahead further : Ahead) (line number : ℕ) (failed : Bool) (l mid new_l : Linking) (w new_w : Writing) (feed : List ℕ) (code new : C)
+pub cut-hands : {Z : Type 0} (C : Type 0) (Stands : C → Client → Type 0) (lent : C → Option Answer) (IsOf : Standing C) (Has : Holding C) (k : Setting) (s : Start C Z) (ahead further : Ahead) (line number : ℕ) (failed : Bool) (l mid new_l : Linking) (w new_w : Writing) (feed : List ℕ) (code new : C)
     (lines : List TraceLine) (sent : List Message) (handed : Handed) (h : Free C Stands lent IsOf Has k s ahead line failed l (IsWritten s w) feed code)
     → ahead (lent code) ≡ Next number (Do WasCut) further
     → Makes Stands lent IsOf Has k code new (left_by s.past (h.at.course.earlier ++ h.at.course.call ∷ [])) WasCut lines sent → mid ≡ Rattle.sr_io.specs.Told.hung_up l
     → Carries k.says handed mid new_l w new_w (spelled sent) (flat_map (line_text k.schema number) lines) → Hands C Stands lent IsOf Has k handed s further number none_taken failed new_l new_w feed new
-cut-hands C Stands lent IsOf Has k s ahead further line number failed l mid new_l w new_w feed code new lines sent handed h on m gone carries =
+cut-hands {Z} C Stands lent IsOf Has k s ahead further line number failed l mid new_l w new_w feed code new lines sent handed h on m gone carries =
     hands-down C Stands lent IsOf Has k s ahead further line h.came number Scripted code new WasCut lines sent on (omega arith) failed l new_l w new_w feed feed h.at m h.free tt refl handed mid m.link.0 m.link.1 refl
     (ap connections gone ∙ append-nil (connections l)) (ap (λ (x : Linking). x.peers) gone) (ap (λ (x : Linking). x.faults) gone) carries
 

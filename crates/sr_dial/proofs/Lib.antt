@@ -1,5 +1,6 @@
 pub mod ListLemmas
 pub mod ToldLemmas
+pub mod SteadyLemmas
 pub mod CourseLemmas
 pub mod BrokenLemmas
 pub mod BeginLemmas

@@ -23,12 +23,13 @@ use Rattle.sr_dial.proofs.BeginLemmas.{begins, begin-breaks, begin-fails, rests-
 use Rattle.sr_dial.proofs.BrokenLemmas.{fail-ends, one-sent}
 use Rattle.sr_dial.proofs.EndLemmas.{unwritten-at, unwritten-broken}
 use Rattle.sr_dial.proofs.HandLemmas.{half, hands-up, wrote}
+use Rattle.sr_dial.proofs.SteadyLemmas.{steadily-first}
 use Rattle.sr_dial.proofs.ToldLemmas.{still-self}
 use Rattle.sr_dial.specs.declared.parts.Answer.{Answer}
 use Rattle.sr_dial.specs.Following.{Ahead}
 use Rattle.sr_plan.specs.Plans.{Next}
 
-module _ (C : Type 0) (Stands : C → Client → Type 0) (lent : C → Option Answer) (IsOf : Standing C) (Has : Holding C) (k : Setting) (s : Start C) where
+module _ {Z : Type 0} (C : Type 0) (Stands : C → Client → Type 0) (lent : C → Option Answer) (IsOf : Standing C) (Has : Holding C) (k : Setting) (s : Start C Z) where
   -- ---- a resume
 
   -- before anything was done the client's link is cut
@@ -63,6 +64,7 @@ module _ (C : Type 0) (Stands : C → Client → Type 0) (lent : C → Option An
       writes = u.written;
     };
     cut = u.cut;
+    steadily = steadily-first Z s.linking l u.links;
   }
 
   module _ (ahead further : Ahead) (line number : ℕ) (failed : Bool) (l mid new_l : Linking) (w new_w : Writing) (code new : C) (lines : List TraceLine) (sent : List Message)
@@ -73,42 +75,44 @@ module _ (C : Type 0) (Stands : C → Client → Type 0) (lent : C → Option An
     module _ (r : Rests C Stands lent IsOf Has k s ahead line failed l (IsWritten s w) code) (m : Makes Stands lent IsOf Has k code new (left_by s.past r.calls) Resumed lines sent)
         (message : Message) (one : sent ≡ message ∷ []) where
       -- somebody is dialled
-      pub dialled : (handed : Handed) → (l.peers ≡ Some [] → ⊥) → mid ≡ connected_at (Some s.address) l → Carries k.says handed mid new_l w new_w (spelled sent) (flat_map (line_text k.schema number) lines)
+      pub dialled : (handed : Handed) → (Z → mid.is_up ≡ true → handed ≡ Whole) → (l.peers ≡ Some [] → ⊥) → mid ≡ connected_at (Some s.address) l → Carries k.says handed mid new_l w new_w (spelled sent) (flat_map (line_text k.schema number) lines)
           → Hands C Stands lent IsOf Has k handed s further number none_taken failed new_l new_w [] new
-      dialled handed more made carries = by handed (subst (λ x. Carries k.says handed x new_l w new_w (spelled sent) (flat_map (line_text k.schema number) lines)) made carries)
+      dialled handed calm more made carries = by handed (λ z. calm z (ap (λ (x : Linking). x.is_up) made)) (subst (λ x. Carries k.says handed x new_l w new_w (spelled sent) (flat_map (line_text k.schema number) lines)) made carries)
         where
-          by : (handed : Handed) → Carries k.says handed (connected_at (Some s.address) l) new_l w new_w (spelled sent) (flat_map (line_text k.schema number) lines)
+          by : (handed : Handed) → (Z → handed ≡ Whole) → Carries k.says handed (connected_at (Some s.address) l) new_l w new_w (spelled sent) (flat_map (line_text k.schema number) lines)
               → Hands C Stands lent IsOf Has k handed s further number none_taken failed new_l new_w [] new
-          by Whole (is, says) = begins C Stands lent IsOf Has k s ahead further line number failed (IsWritten s w) (IsWritten s new_w) l code new lines sent on (wrote k.says s w new_w text says) r m (r.steps.rests r.cut) message one new_l more is
-          by HandedBroken ((part, rose), says) =
+          by Whole calm (is, says) = begins C Stands lent IsOf Has k s ahead further line number failed (IsWritten s w) (IsWritten s new_w) l code new lines sent on (wrote k.says s w new_w text says) r m (r.steps.rests r.cut) message one new_l more is
+          by HandedBroken calm ((part, rose), says) =
               begin-breaks C Stands lent IsOf Has k s ahead further line number failed (IsWritten s w) (IsWritten s new_w) l code new lines sent on (wrote k.says s w new_w text says) r m (r.steps.rests r.cut) message one new_l more part rose
-          by Unwritten (inl is, says) =
+              (λ z. absurd (let wrong : HandedBroken ≡ Whole = calm z in cc))
+          by Unwritten calm (inl is, says) =
               unwritten-at C Stands lent IsOf Has k s further number none_taken new_l [] new new_w failed
               (begins C Stands lent IsOf Has k s ahead further line number failed (IsWritten s w) (IsPartWritten k.says s new_w) l code new lines sent on (half k.says s w new_w text says) r m (r.steps.rests r.cut) message one new_l more is)
-          by Unwritten (inr (part, rose), says) =
+          by Unwritten calm (inr (part, rose), says) =
               unwritten-broken C Stands lent IsOf Has k s further number none_taken new_l [] new new_w
-              (begin-breaks C Stands lent IsOf Has k s ahead further line number failed (IsWritten s w) (IsPartWritten k.says s new_w) l code new lines sent on (half k.says s w new_w text says) r m (r.steps.rests r.cut) message one new_l more part rose)
+              (begin-breaks C Stands lent IsOf Has k s ahead further line number failed (IsWritten s w) (IsPartWritten k.says s new_w) l code new lines sent on (half k.says s w new_w text says) r m (r.steps.rests r.cut) message one new_l more part rose
+              (λ z. absurd (let wrong : Unwritten ≡ Whole = calm z in cc)))
 
       -- nobody is
-      pub not-dialled : (said : Bool) → OnlyFaults l new_l → Rose l.faults new_l.faults → SaysAs k.says said w new_w (flat_map (line_text k.schema number) lines)
+      pub not-dialled : (said : Bool) → OnlyFaults l new_l → Rose l.faults new_l.faults → (Z → l.peers ≡ Some []) → SaysAs k.says said w new_w (flat_map (line_text k.schema number) lines)
           → Hands C Stands lent IsOf Has k (cond said HandedBroken Unwritten) s further number none_taken failed new_l new_w [] new
-      not-dialled true only rose says = begin-fails C Stands lent IsOf Has k s ahead further line number failed (IsWritten s w) (IsWritten s new_w) l code new lines sent on (wrote k.says s w new_w text says) r m (r.steps.rests r.cut) message one new_l only rose
-      not-dialled false only rose says =
+      not-dialled true only rose last says = begin-fails C Stands lent IsOf Has k s ahead further line number failed (IsWritten s w) (IsWritten s new_w) l code new lines sent on (wrote k.says s w new_w text says) r m (r.steps.rests r.cut) message one new_l only rose last
+      not-dialled false only rose last says =
           unwritten-broken C Stands lent IsOf Has k s further number none_taken new_l [] new new_w
-          (begin-fails C Stands lent IsOf Has k s ahead further line number failed (IsWritten s w) (IsPartWritten k.says s new_w) l code new lines sent on (half k.says s w new_w text says) r m (r.steps.rests r.cut) message one new_l only rose)
+          (begin-fails C Stands lent IsOf Has k s ahead further line number failed (IsWritten s w) (IsPartWritten k.says s new_w) l code new lines sent on (half k.says s w new_w text says) r m (r.steps.rests r.cut) message one new_l only rose last)
 
   module _ (ahead further : Ahead) (line number : ℕ) (failed : Bool) (l new_l : Linking) (w new_w : Writing) (feed : List ℕ) (code new : C) (lines : List TraceLine) (sent : List Message)
       (on : ahead (lent code) ≡ Next number (Do Resumed) further) (ready : IsReady C Stands lent IsOf Has k s ahead line failed l (IsWritten s w) feed code) (act : (c : Client) → Stands code c → Makes Stands lent IsOf Has k code new c Resumed lines sent) where
     -- the link is up: nothing is done
-    pub resumes-up : (handed : Handed) → sent ≡ [] → Carries k.says handed l new_l w new_w (spelled sent) (flat_map (line_text k.schema number) lines)
+    pub resumes-up : (handed : Handed) → (Z → l.is_up ≡ true → handed ≡ Whole) → sent ≡ [] → Carries k.says handed l new_l w new_w (spelled sent) (flat_map (line_text k.schema number) lines)
         → Hands C Stands lent IsOf Has k handed s further number none_taken failed new_l new_w feed new
-    resumes-up handed none carries = by ready
+    resumes-up handed calm none carries = by ready
       where
         by : IsReady C Stands lent IsOf Has k s ahead line failed l (IsWritten s w) feed code → Hands C Stands lent IsOf Has k handed s further number none_taken failed new_l new_w feed new
         by (inl f) =
             let m = act (left_by s.past (f.at.course.earlier ++ f.at.course.call ∷ [])) f.at.course.steps.stands in
             let link = subst (λ ms. KeepsLink Resumed ms (left_by s.past (f.at.course.earlier ++ f.at.course.call ∷ [])) m.next) none m.link in
-            hands-up C Stands lent IsOf Has k s ahead further line f.came number Scripted code new Resumed lines sent on (omega arith) failed l new_l w new_w feed feed f.at m f.free link.0 refl handed link.0 link.1 refl carries
+            hands-up C Stands lent IsOf Has k s ahead further line f.came number Scripted code new Resumed lines sent on (omega arith) failed l new_l w new_w feed feed f.at m f.free link.0 refl handed calm link.0 link.1 refl carries
         by (inr u) =
             let m = act s.past (subst (λ x. Stands x s.past) (sym u.code_is) u.stands) in
             let link = subst (λ ms. KeepsLink Resumed ms s.past m.next) none m.link in
@@ -129,9 +133,9 @@ module _ (C : Type 0) (Stands : C → Client → Type 0) (lent : C → Option An
             (down (left_by s.past (f.at.course.earlier ++ f.at.course.call ∷ [])) (act (left_by s.past (f.at.course.earlier ++ f.at.course.call ∷ [])) f.at.course.steps.stands) sent refl)
         by (inr u) = unbegun-rests ahead line failed l (IsWritten s w) code u
 
-    pub resumes-dialled : (handed : Handed) (mid : Linking) → (sent ≡ [] → ⊥) → (l.peers ≡ Some [] → ⊥) → mid ≡ connected_at (Some s.address) l → Carries k.says handed mid new_l w new_w (spelled sent) (flat_map (line_text k.schema number) lines)
+    pub resumes-dialled : (handed : Handed) (mid : Linking) → (Z → mid.is_up ≡ true → handed ≡ Whole) → (sent ≡ [] → ⊥) → (l.peers ≡ Some [] → ⊥) → mid ≡ connected_at (Some s.address) l → Carries k.says handed mid new_l w new_w (spelled sent) (flat_map (line_text k.schema number) lines)
         → Hands C Stands lent IsOf Has k handed s further number none_taken failed new_l new_w [] new
-    resumes-dialled handed mid some more made carries = by (one-sent m.outcome)
+    resumes-dialled handed mid calm some more made carries = by (one-sent m.outcome)
       where
         r : Rests C Stands lent IsOf Has k s ahead line failed l (IsWritten s w) code
         r = resting some
@@ -141,11 +145,11 @@ module _ (C : Type 0) (Stands : C → Client → Type 0) (lent : C → Option An
 
         by : (sent_of m.outcome ≡ []) ⊎ ((x : Message) × (sent_of m.outcome ≡ x ∷ [])) → Hands C Stands lent IsOf Has k handed s further number none_taken failed new_l new_w [] new
         by (inl none) = absurd (some (m.sent_is ∙ none))
-        by (inr (x, one)) = dialled ahead further line number failed l mid new_l w new_w code new lines sent on r m x (m.sent_is ∙ one) handed more made carries
+        by (inr (x, one)) = dialled ahead further line number failed l mid new_l w new_w code new lines sent on r m x (m.sent_is ∙ one) handed calm more made carries
 
-    pub resumes-alone : (said : Bool) → (sent ≡ [] → ⊥) → OnlyFaults l new_l → Rose l.faults new_l.faults → SaysAs k.says said w new_w (flat_map (line_text k.schema number) lines)
+    pub resumes-alone : (said : Bool) → (sent ≡ [] → ⊥) → OnlyFaults l new_l → Rose l.faults new_l.faults → (Z → l.peers ≡ Some []) → SaysAs k.says said w new_w (flat_map (line_text k.schema number) lines)
         → Hands C Stands lent IsOf Has k (cond said HandedBroken Unwritten) s further number none_taken failed new_l new_w [] new
-    resumes-alone said some only rose says = by (one-sent m.outcome)
+    resumes-alone said some only rose last says = by (one-sent m.outcome)
       where
         r : Rests C Stands lent IsOf Has k s ahead line failed l (IsWritten s w) code
         r = resting some
@@ -155,7 +159,7 @@ module _ (C : Type 0) (Stands : C → Client → Type 0) (lent : C → Option An
 
         by : (sent_of m.outcome ≡ []) ⊎ ((x : Message) × (sent_of m.outcome ≡ x ∷ [])) → Hands C Stands lent IsOf Has k (cond said HandedBroken Unwritten) s further number none_taken failed new_l new_w [] new
         by (inl none) = absurd (some (m.sent_is ∙ none))
-        by (inr (x, one)) = not-dialled ahead further line number failed l l new_l w new_w code new lines sent on r m x (m.sent_is ∙ one) said only rose says
+        by (inr (x, one)) = not-dialled ahead further line number failed l l new_l w new_w code new lines sent on r m x (m.sent_is ∙ one) said only rose last says
 
   -- ---- the link failed
 

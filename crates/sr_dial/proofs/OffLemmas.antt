@@ -38,7 +38,7 @@ use Rattle.sr_dial.proofs.PlanLemmas.{GoesOn}
 use Rattle.sr_dial.proofs.QuietLemmas.{IsQuiet, at-quiet, quiet-explained, quiet-said}
 use Rattle.sr_dial.proofs.ToldLemmas.{told-more}
 
-module _ {C : Type 0} (says : Bool) (s : Start C) (w new_w : Writing) (text : List ℕ) where
+module _ {C Z : Type 0} (says : Bool) (s : Start C Z) (w new_w : Writing) (text : List ℕ) where
   -- behind all texts a beginning of one more is written
   pub partly : SaysInPart says w new_w text → (texts : List ℕ) → IsWritten s w texts → IsSomeWritten s new_w (texts ++ spoken says text)
   partly (part, same) texts (before, faults) = (prefix-behind s.writing.written w.written new_w.written texts (spoken says text) before part, same ∙ faults)
@@ -49,10 +49,10 @@ all-or-some true l new_l bytes never is = inl is
 all-or-some false l new_l bytes never (part, rose) = inr (part, never)
 
 -- all is a beginning
-pub all-is-some : {C : Type 0} (s : Start C) (w : Writing) (texts : List ℕ) → IsWritten s w texts → IsSomeWritten s w texts
-all-is-some {C} s w texts (is, same) = (all-written s.writing.written w.written texts is, same)
+pub all-is-some : {C Z : Type 0} (s : Start C Z) (w : Writing) (texts : List ℕ) → IsWritten s w texts → IsSomeWritten s w texts
+all-is-some {C} {Z} s w texts (is, same) = (all-written s.writing.written w.written texts is, same)
 
-module _ (C : Type 0) (Stands : C → Client → Type 0) (lent : C → Option Answer) (IsOf : Standing C) (Has : Holding C) (k : Setting) (s : Start C) where
+module _ {Z : Type 0} (C : Type 0) (Stands : C → Client → Type 0) (lent : C → Option Answer) (IsOf : Standing C) (Has : Holding C) (k : Setting) (s : Start C Z) where
   -- ---- wherever it is
 
   module _ (ahead : Ahead) (line : ℕ) (P : List ℕ → Type 0) (feed : List ℕ) (code : C) (w : Writing) (written : (texts : List ℕ) → P texts → IsSomeWritten s w texts) where

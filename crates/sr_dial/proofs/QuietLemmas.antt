@@ -1,5 +1,5 @@
 -- A run in which one thing more is done that is no step: all else stays as it is.
-use Rattle.std.proofs.Common.{◌≡◌, ℕ, ◌+◌, ◌≤◌, arith, Bool, true, false, cond, List, [], ◌∷◌, ◌++◌, append-nil, refl, sym, ◌∙◌, ap, subst, Option, None}
+use Rattle.std.proofs.Common.{◌≡◌, ℕ, ◌+◌, ◌≤◌, arith, Bool, true, false, cond, List, [], ◌∷◌, ◌++◌, append-nil, length, refl, sym, ◌∙◌, ap, subst, Option, None}
 use Rattle.std.specs.Prelude.{◌&&◌, ◌||◌, IfSome, Result, flat_map}
 use Rattle.std.specs.List.{list_any, All}
 use Rattle.std.proofs.lemmas.Grind.{flat_map-append}
@@ -28,6 +28,7 @@ use Rattle.sr_dial.proofs.CourseLemmas.{all-step, given-step, given_by, or-no, p
 use Rattle.sr_dial.proofs.EndLemmas.{unwritten-at}
 use Rattle.sr_dial.proofs.HandLemmas.{half, wrote}
 use Rattle.sr_dial.proofs.PlanLemmas.{passed-ahead, passed-answer, passed-goes}
+use Rattle.sr_dial.proofs.SteadyLemmas.{steadily-on}
 use Rattle.sr_dial.proofs.ToldLemmas.{told-same}
 use Rattle.sr_dial.specs.declared.waiting.Count.{Count}
 
@@ -51,7 +52,7 @@ pub quiet-said : {C : Type 0} (keeps : Bool) (number : ℕ) (text : List ℕ) �
 quiet-said keeps number text =
     record { number_is = refl; did = refl; steps = refl; still = λ c. refl; given = refl; sent = refl; fine = refl; zero = λ n. refl; place = λ schema line c free. (free, tt) }
 
-module _ (C : Type 0) (Stands : C → Client → Type 0) (lent : C → Option Answer) (IsOf : Standing C) (Has : Holding C) (k : Setting) (s : Start C) (ahead further : Ahead) (line : ℕ) (came : Count) (number : ℕ) (P Q : List ℕ → Type 0) (code : C) (d : Done C) (task : Task)
+module _ {Z : Type 0} (C : Type 0) (Stands : C → Client → Type 0) (lent : C → Option Answer) (IsOf : Standing C) (Has : Holding C) (k : Setting) (s : Start C Z) (ahead further : Ahead) (line : ℕ) (came : Count) (number : ℕ) (P Q : List ℕ → Type 0) (code : C) (d : Done C) (task : Task)
     (quiet : IsQuiet k.keeps d number task) (on : ahead (lent code) ≡ Next number task further) (says : (texts : List ℕ) → P texts → Q (texts ++ said_by k d)) where
   stepped-more : (ds : List (Done C)) → Stepped C Stands lent IsOf Has k s ahead line came ds P code → (past_after s.past (steps_in ds)).out ≡ None → AreFairlyExplained IsOf k.limits code (past_after s.past (steps_in ds)) (d ∷ [])
       → Stepped C Stands lent IsOf Has k s (λ answer. further None) number none_taken (ds ++ d ∷ []) Q code
@@ -131,29 +132,32 @@ module _ (C : Type 0) (Stands : C → Client → Type 0) (lent : C → Option An
       failed_is = any-one h.course.earlier longer ∙ (ap (λ b. list_any fails h.course.earlier || b) fails-same ∙ (sym (any-one h.course.earlier h.course.call) ∙ h.failed_is));
       calm = h.calm;
       peers_stay = h.peers_stay;
+      up = λ still_up. h.up (sym (ap (λ (c : Client). c.cut) past-same) ∙ still_up);
+      steadily = steadily-on Z (count_faults (h.course.earlier ++ h.course.call ∷ [])) (count_faults (h.course.earlier ++ longer ∷ [])) (length h.course.earlier + 1) s.linking l l
+          (count-one h.course.earlier longer ∙ (ap (λ b. count_faults h.course.earlier + one_if (b && is_fault h.course.call)) fails-same ∙ sym (count-one h.course.earlier h.course.call))) refl refl h.steadily;
     }
 
 -- its text is written, or not
-quiet-hands : (C : Type 0) (Stands : C → Client → Type 0) (lent : C → Option Answer) (IsOf : Standing C) (Has : Holding C) (k : Setting) (s : Start C) (ahead further : Ahead) (line number : ℕ) (failed : Bool) (l : Linking) (w new_w : Writing) (feed : List ℕ) (code : C)
+quiet-hands : {Z : Type 0} (C : Type 0) (Stands : C → Client → Type 0) (lent : C → Option Answer) (IsOf : Standing C) (Has : Holding C) (k : Setting) (s : Start C Z) (ahead further : Ahead) (line number : ℕ) (failed : Bool) (l : Linking) (w new_w : Writing) (feed : List ℕ) (code : C)
     (d : Done C) (task : Task) (said : Bool) (h : Free C Stands lent IsOf Has k s ahead line failed l (IsWritten s w) feed code) → IsQuiet k.keeps d number task → ahead (lent code) ≡ Next number task further
     → AreFairlyExplained IsOf k.limits code (left_by s.past (h.at.course.earlier ++ h.at.course.call ∷ [])) (d ∷ []) → SaysAs k.says said w new_w (text_of k.schema k.number d)
     → Hands C Stands lent IsOf Has k (cond said Whole Unwritten) s (λ answer. further None) number none_taken failed l new_w feed code
-quiet-hands C Stands lent IsOf Has k s ahead further line number failed l w new_w feed code d task true h quiet on fair says =
+quiet-hands {Z} C Stands lent IsOf Has k s ahead further line number failed l w new_w feed code d task true h quiet on fair says =
     at-quiet C Stands lent IsOf Has k s ahead further line h.came number (IsWritten s w) (IsWritten s new_w) code d task quiet on (wrote k.says s w new_w (text_of k.schema k.number d) says) failed l feed h.at h.free fair
-quiet-hands C Stands lent IsOf Has k s ahead further line number failed l w new_w feed code d task false h quiet on fair says =
+quiet-hands {Z} C Stands lent IsOf Has k s ahead further line number failed l w new_w feed code d task false h quiet on fair says =
     unwritten-at C Stands lent IsOf Has k s (λ answer. further None) number none_taken l feed code new_w failed
     (at-quiet C Stands lent IsOf Has k s ahead further line h.came number (IsWritten s w) (IsPartWritten k.says s new_w) code d task quiet on (half k.says s w new_w (text_of k.schema k.number d) says) failed l feed h.at h.free fair)
 
-pub explains-hands : (C : Type 0) (Stands : C → Client → Type 0) (lent : C → Option Answer) (IsOf : Standing C) (Has : Holding C) (k : Setting) (s : Start C) (ahead further : Ahead) (line number : ℕ) (failed : Bool) (l : Linking) (w new_w : Writing) (feed : List ℕ) (code : C)
+pub explains-hands : {Z : Type 0} (C : Type 0) (Stands : C → Client → Type 0) (lent : C → Option Answer) (IsOf : Standing C) (Has : Holding C) (k : Setting) (s : Start C Z) (ahead further : Ahead) (line number : ℕ) (failed : Bool) (l : Linking) (w new_w : Writing) (feed : List ℕ) (code : C)
     (text : Result Query Fault) (lines : List TraceLine) (said : Bool) (h : Free C Stands lent IsOf Has k s ahead line failed l (IsWritten s w) feed code) → ahead (lent code) ≡ Next number (Explain text) further
     → Tells IsOf k code (left_by s.past (h.at.course.earlier ++ h.at.course.call ∷ [])) text lines → SaysAs k.says said w new_w (flat_map (line_text k.schema number) lines)
     → Hands C Stands lent IsOf Has k (cond said Whole Unwritten) s (λ answer. further None) number none_taken failed l new_w feed code
-explains-hands C Stands lent IsOf Has k s ahead further line number failed l w new_w feed code text lines said h on t says =
+explains-hands {Z} C Stands lent IsOf Has k s ahead further line number failed l w new_w feed code text lines said h on t says =
     quiet-hands C Stands lent IsOf Has k s ahead further line number failed l w new_w feed code (Explained number text t.result) (Explain text) said h (quiet-explained k.keeps number text t.result) on (t.fair, tt)
     (subst (λ ls. SaysAs k.says said w new_w (flat_map (line_text k.schema number) ls)) t.lines_are says)
 
-pub says-hands : (C : Type 0) (Stands : C → Client → Type 0) (lent : C → Option Answer) (IsOf : Standing C) (Has : Holding C) (k : Setting) (s : Start C) (ahead further : Ahead) (line number : ℕ) (failed : Bool) (l : Linking) (w new_w : Writing) (feed : List ℕ) (code : C)
+pub says-hands : {Z : Type 0} (C : Type 0) (Stands : C → Client → Type 0) (lent : C → Option Answer) (IsOf : Standing C) (Has : Holding C) (k : Setting) (s : Start C Z) (ahead further : Ahead) (line number : ℕ) (failed : Bool) (l : Linking) (w new_w : Writing) (feed : List ℕ) (code : C)
     (text : List ℕ) (said : Bool) → Free C Stands lent IsOf Has k s ahead line failed l (IsWritten s w) feed code → ahead (lent code) ≡ Next number (Say text) further → SaysAs k.says said w new_w text
     → Hands C Stands lent IsOf Has k (cond said Whole Unwritten) s (λ answer. further None) number none_taken failed l new_w feed code
-says-hands C Stands lent IsOf Has k s ahead further line number failed l w new_w feed code text said h on says =
+says-hands {Z} C Stands lent IsOf Has k s ahead further line number failed l w new_w feed code text said h on says =
     quiet-hands C Stands lent IsOf Has k s ahead further line number failed l w new_w feed code (Said number text) (Say text) said h (quiet-said k.keeps number text) on tt says

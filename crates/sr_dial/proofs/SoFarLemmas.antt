@@ -64,7 +64,7 @@ left-anew n most = by n.again n.taken most
 
 pub record WaitedSoFar (H C : Type 0) (reading : H → Reading) (writing : H → Writing) (linking : H → Linking) (held : H → List ℕ → Option (List ℕ)) (complaints : H → Option (List ℕ)) (IsSteady : H → Type 0)
     (Stands : C → Client → Type 0) (lent : C → Option Answer) (IsOf : Standing C) (Has : Holding C) (setting : C → Setting) (room : C → ℕ) (schema : List Table) (number : ℕ) (first now : H) (fed feed : List ℕ) (code_first code : C) (count : Count) : Type 0 where
-  pub so_far : (k : Setting) (s : Start C) (ahead : Ahead) (failed : Bool) → setting code_first ≡ k → schema ≡ k.schema
+  pub so_far : (k : Setting) (run : H) (s : Start C (IsSteady run)) (steady : IsSteady run → IsSteady first) (ahead : Ahead) (failed : Bool) → setting code_first ≡ k → schema ≡ k.schema
       → At C Stands lent IsOf Has k s ahead number none_taken failed (linking first) (IsWritten s (writing first)) fed code_first → At C Stands lent IsOf Has k s ahead number count failed (linking now) (IsWritten s (writing now)) feed code
   pub same : setting code ≡ setting code_first
   pub draws : room code_first ≤ room code + 2 * spent count
@@ -74,7 +74,7 @@ pub record WaitedSoFar (H C : Type 0) (reading : H → Reading) (writing : H →
 -- ---- a plan
 
 -- This is ahead, and nothing is out.
-pub record Going (C S : Type 0) (Stands : C → Client → Type 0) (lent : C → Option Answer) (IsOf : Standing C) (Has : Holding C) (Follows : List Table → S → Ahead → Type 0) (k : Setting) (s : Start C) (plans : S) (failed : Bool) (l : Linking) (w : Writing) (feed : List ℕ) (code : C) : Type 0 where
+pub record Going {Z : Type 0} (C S : Type 0) (Stands : C → Client → Type 0) (lent : C → Option Answer) (IsOf : Standing C) (Has : Holding C) (Follows : List Table → S → Ahead → Type 0) (k : Setting) (s : Start C Z) (plans : S) (failed : Bool) (l : Linking) (w : Writing) (feed : List ℕ) (code : C) : Type 0 where
   pub ahead : Ahead
   pub number : ℕ
   pub follows : Follows k.schema plans ahead
@@ -82,7 +82,7 @@ pub record Going (C S : Type 0) (Stands : C → Client → Type 0) (lent : C →
 
 pub record RunSoFar (H C S : Type 0) (reading : H → Reading) (writing : H → Writing) (linking : H → Linking) (held : H → List ℕ → Option (List ℕ)) (complaints : H → Option (List ℕ)) (IsSteady : H → Type 0)
     (Stands : C → Client → Type 0) (lent : C → Option Answer) (IsOf : Standing C) (Has : Holding C) (setting : C → Setting) (room : C → ℕ) (Follows : List Table → S → Ahead → Type 0) (depth : S → ℕ) (schema : List Table) (address : List ℕ) (plans_first plans : S) (failed_first failed : Bool) (first now : H) (fed feed : List ℕ) (code_first code : C) : Type 0 where
-  pub so_far : (k : Setting) (s : Start C) (ahead : Ahead) (number : ℕ) → s.address ≡ address → setting code_first ≡ k → schema ≡ k.schema
+  pub so_far : (k : Setting) (run : H) (s : Start C (IsSteady run)) (steady : IsSteady run → IsSteady first) (ahead : Ahead) (number : ℕ) → s.address ≡ address → setting code_first ≡ k → schema ≡ k.schema
       → Free C Stands lent IsOf Has k s ahead number failed_first (linking first) (IsWritten s (writing first)) fed code_first → Follows k.schema plans_first ahead
       → Going C S Stands lent IsOf Has Follows k s plans failed (linking now) (writing now) feed code
   pub same : setting code ≡ setting code_first
@@ -105,7 +105,7 @@ module _ (S : Type 0) (Follows : List Table → S → Ahead → Type 0) (old new
       by None is = subst (λ (j : Option Job). Gives Follows schema j (ahead answer) new) is (gives schema ahead follows)
       by (Some job) is = absurd (not job is)
 
-module _ (C S : Type 0) (Stands : C → Client → Type 0) (lent : C → Option Answer) (IsOf : Standing C) (Has : Holding C) (Follows : List Table → S → Ahead → Type 0) (k : Setting) (s : Start C) where
+module _ {Z : Type 0} (C S : Type 0) (Stands : C → Client → Type 0) (lent : C → Option Answer) (IsOf : Standing C) (Has : Holding C) (Follows : List Table → S → Ahead → Type 0) (k : Setting) (s : Start C Z) where
   -- one job more
   pub going-more : (job : Job) (plans new_plans : S) (failed next_failed : Bool) (l new_l : Linking) (w new_w : Writing) (feed new_feed : List ℕ) (code new : C) (h : Going C S Stands lent IsOf Has Follows k s plans failed l w feed code)
       → GivesNext Follows k.schema job (h.ahead (lent code)) new_plans
@@ -122,11 +122,11 @@ module _ (C S : Type 0) (Stands : C → Client → Type 0) (lent : C → Option 
   going-done plans false l w feed code h none = record { ahead = h.ahead; line = h.number; free = h.free; none = none }
 
 -- one ends the run
-pub early : (C : Type 0) (Stands : C → Client → Type 0) (lent : C → Option Answer) (IsOf : Standing C) (Has : Holding C) (k : Setting) (s : Start C) (ended : Ending) (l : Linking) (w : Writing) (feed : List ℕ) (code : C)
+pub early : {Z : Type 0} (C : Type 0) (Stands : C → Client → Type 0) (lent : C → Option Answer) (IsOf : Standing C) (Has : Holding C) (k : Setting) (s : Start C Z) (ended : Ending) (l : Linking) (w : Writing) (feed : List ℕ) (code : C)
     → Over C Stands lent IsOf Has k s ended l w code → IsEarly ended → Finishes C Stands lent IsOf Has k ended s l w feed code
-early C Stands lent IsOf Has k s ending.Whole l w feed code over is = absurd is
-early C Stands lent IsOf Has k s ending.Faulty l w feed code over is = absurd is
-early C Stands lent IsOf Has k s ending.Unwritten l w feed code over is = over
-early C Stands lent IsOf Has k s (ending.Spoiled fault) l w feed code over is = over
-early C Stands lent IsOf Has k s (ending.Bad why) l w feed code over is = over
-early C Stands lent IsOf Has k s ending.Limit l w feed code over is = over
+early {Z} C Stands lent IsOf Has k s ending.Whole l w feed code over is = absurd is
+early {Z} C Stands lent IsOf Has k s ending.Faulty l w feed code over is = absurd is
+early {Z} C Stands lent IsOf Has k s ending.Unwritten l w feed code over is = over
+early {Z} C Stands lent IsOf Has k s (ending.Spoiled fault) l w feed code over is = over
+early {Z} C Stands lent IsOf Has k s (ending.Bad why) l w feed code over is = over
+early {Z} C Stands lent IsOf Has k s ending.Limit l w feed code over is = over

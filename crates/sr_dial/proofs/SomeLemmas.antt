@@ -12,9 +12,9 @@ use Rattle.sr_dial.specs.declared.run.LineEnd.TheVariants.{Failed, Ends}
 use Rattle.sr_dial.specs.declared.parts.Answer.{Answer}
 use Rattle.sr_dial.specs.Following.{Ahead}
 
-pub unbegun : (C : Type 0) (Stands : C → Client → Type 0) (lent : C → Option Answer) (IsOf : Standing C) (Has : Holding C) (k : Setting) (s : Start C) → Stands s.code s.past → s.past.cut ≡ true → s.past.out ≡ None → lent s.code ≡ None
+pub unbegun : {Z : Type 0} (C : Type 0) (Stands : C → Client → Type 0) (lent : C → Option Answer) (IsOf : Standing C) (Has : Holding C) (k : Setting) (s : Start C Z) → Stands s.code s.past → s.past.cut ≡ true → s.past.out ≡ None → lent s.code ≡ None
     → Unbegun C Stands lent IsOf Has k s (λ answer. s.plan) 0 false s.linking (IsWritten s s.writing) s.code
-unbegun C Stands lent IsOf Has k s stands cut out lends = record {
+unbegun {Z} C Stands lent IsOf Has k s stands cut out lends = record {
   none = refl;
   lends = lends;
   first = refl;
@@ -28,7 +28,7 @@ unbegun C Stands lent IsOf Has k s stands cut out lends = record {
 }
 
 -- a line ends so whose link failed
-pub ends-failed : (C : Type 0) (Stands : C → Client → Type 0) (lent : C → Option Answer) (IsOf : Standing C) (Has : Holding C) (k : Setting) (s : Start C) (ahead : Ahead) (line : ℕ) (failed : Bool) (l : Linking) (w : Writing) (feed : List ℕ) (code : C) (said : Bool)
+pub ends-failed : {Z : Type 0} (C : Type 0) (Stands : C → Client → Type 0) (lent : C → Option Answer) (IsOf : Standing C) (Has : Holding C) (k : Setting) (s : Start C Z) (ahead : Ahead) (line : ℕ) (failed : Bool) (l : Linking) (w : Writing) (feed : List ℕ) (code : C) (said : Bool)
     → FailsAs C Stands lent IsOf Has k said s ahead line l w feed code → EndsLine C Stands lent IsOf Has k (cond said Failed (Ends Unwritten)) s ahead line failed l w feed code
-ends-failed C Stands lent IsOf Has k s ahead line failed l w feed code true is = is
-ends-failed C Stands lent IsOf Has k s ahead line failed l w feed code false is = (is, tt)
+ends-failed {Z} C Stands lent IsOf Has k s ahead line failed l w feed code true is = is
+ends-failed {Z} C Stands lent IsOf Has k s ahead line failed l w feed code false is = (is, tt)

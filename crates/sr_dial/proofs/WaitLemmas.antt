@@ -35,7 +35,7 @@ use Rattle.sr_dial.specs.declared.waiting.Count.{Count}
 use Rattle.sr_script.specs.declared.line.TraceLine.{TraceLine}
 use Rattle.sr_session.specs.Misfits.{misfit}
 
-module _ (C : Type 0) (Stands : C → Client → Type 0) (lent : C → Option Answer) (IsOf : Standing C) (Has : Holding C) (k : Setting) (s : Start C) (ahead : Ahead) (line : ℕ) (came : Count) (failed : Bool) (l : Linking) (w : Writing) (feed : List ℕ) (code : C)
+module _ {Z : Type 0} (C : Type 0) (Stands : C → Client → Type 0) (lent : C → Option Answer) (IsOf : Standing C) (Has : Holding C) (k : Setting) (s : Start C Z) (ahead : Ahead) (line : ℕ) (came : Count) (failed : Bool) (l : Linking) (w : Writing) (feed : List ℕ) (code : C)
     (h : At C Stands lent IsOf Has k s ahead line came failed l (IsWritten s w) feed code) where
   abbrev now : Client
   now = left_by s.past (h.course.earlier ++ h.course.call ∷ [])
@@ -86,10 +86,10 @@ module _ (C : Type 0) (Stands : C → Client → Type 0) (lent : C → Option An
     awaits-torn new_l after (r, some_left, short, over) =
         end-breaks C Stands lent IsOf Has k s ahead line came failed new_l (IsWritten s w) after code (read new_l [] after r) (read-up new_l [] after r) (read-out new_l [] after r) over short
 
-    pub awaits-fault : (new_l : Linking) (after : List ℕ) → Nexts Fault l new_l feed after → Broken C Stands lent IsOf Has k s ahead line new_l (IsWritten s w) after code
-    awaits-fault new_l after all =
+    pub awaits-fault : (new_l : Linking) (after : List ℕ) → (Z → l.is_up ≡ true → ⊥) → Nexts Fault l new_l feed after → Broken C Stands lent IsOf Has k s ahead line new_l (IsWritten s w) after code
+    awaits-fault new_l after never all =
         fault-breaks C Stands lent IsOf Has k s ahead line came failed all.linking (IsWritten s w) after code (read all.linking [] after all.reads) (read-up all.linking [] after all.reads)
-        (read-out all.linking [] after all.reads) new_l all.only (subst (λ n. Rose n new_l.faults) (sym (ap (λ (x : Linking). x.faults) all.reads.is)) all.rose)
+        (read-out all.linking [] after all.reads) new_l all.only (subst (λ n. Rose n new_l.faults) (sym (ap (λ (x : Linking). x.faults) all.reads.is)) all.rose) (λ z. never z (h.up is-up))
 
     pub awaits-spoiled : (new_l : Linking) (after : List ℕ) (fault : WireFault) → Nexts (NextBad fault) l new_l feed after → Over C Stands lent IsOf Has k s (ending.Spoiled fault) new_l w code
     awaits-spoiled new_l after fault (r, faulty, other) =
@@ -113,20 +113,20 @@ module _ (C : Type 0) (Stands : C → Client → Type 0) (lent : C → Option An
         subst (λ x. IsRead new_l x m after) (sym same) (record { at = read new_l (spelling m) after r; waits = read-some new_l (spelling m) after r; spells = is })
 
     -- what comes next is the last thing that is looked at
-    pub awaits-last : (new_l : Linking) (new_w : Writing) (after : List ℕ) (next : Next) → came.taken ≡ 1000000 → new_w ≡ w → Nexts next l new_l feed after
+    pub awaits-last : (new_l : Linking) (new_w : Writing) (after : List ℕ) (next : Next) → (Z → l.is_up ≡ true → next ≢ Fault) → came.taken ≡ 1000000 → new_w ≡ w → Nexts next l new_l feed after
         → Waits C Stands lent IsOf Has k (last_of next) s ahead line failed new_l new_w after code
-    awaits-last new_l new_w after next many same comes = subst (λ x. Waits C Stands lent IsOf Has k (last_of next) s ahead line failed new_l x after code) (sym same) (by next comes)
+    awaits-last new_l new_w after next calm many same comes = subst (λ x. Waits C Stands lent IsOf Has k (last_of next) s ahead line failed new_l x after code) (sym same) (by next calm comes)
       where
-        by : (next : Next) → Nexts next l new_l feed after → Waits C Stands lent IsOf Has k (last_of next) s ahead line failed new_l w after code
-        by (Frame m) comes = awaits-no-more new_l after m many comes
-        by End comes = awaits-end new_l after comes
-        by Torn comes = awaits-torn new_l after comes
-        by Fault comes = awaits-fault new_l after comes
-        by (NextBad fault) comes = awaits-spoiled new_l after fault comes
+        by : (next : Next) → (Z → l.is_up ≡ true → next ≢ Fault) → Nexts next l new_l feed after → Waits C Stands lent IsOf Has k (last_of next) s ahead line failed new_l w after code
+        by (Frame m) calm comes = awaits-no-more new_l after m many comes
+        by End calm comes = awaits-end new_l after comes
+        by Torn calm comes = awaits-torn new_l after comes
+        by Fault calm comes = awaits-fault new_l after (λ z up. calm z up refl) comes
+        by (NextBad fault) calm comes = awaits-spoiled new_l after fault comes
 
 -- ---- one message
 
-module _ (C : Type 0) (Stands : C → Client → Type 0) (lent : C → Option Answer) (IsOf : Standing C) (Has : Holding C) (k : Setting) (s : Start C) (ahead : Ahead) (line : ℕ) (came : Count) (failed : Bool) (l new_l : Linking) (w new_w : Writing) (after : List ℕ) (code new : C) (m : Message)
+module _ {Z : Type 0} (C : Type 0) (Stands : C → Client → Type 0) (lent : C → Option Answer) (IsOf : Standing C) (Has : Holding C) (k : Setting) (s : Start C Z) (ahead : Ahead) (line : ℕ) (came : Count) (failed : Bool) (l new_l : Linking) (w new_w : Writing) (after : List ℕ) (code new : C) (m : Message)
     (h : At C Stands lent IsOf Has k s ahead line came failed l (IsWritten s w) (spelling m ++ after) code) where
   -- it must be refused
   pub handles-bad : (why : BadFrame) → is_some (left_by s.past (h.course.earlier ++ h.course.call ∷ [])).out ≡ true → IsTrue (has_spelling m)
@@ -144,15 +144,15 @@ module _ (C : Type 0) (Stands : C → Client → Type 0) (lent : C → Option An
       by false = omega arith
 
   -- it is taken
-  pub handles : came.taken + 1 ≤ 1000000 → (lines : List TraceLine) (sent : List Message) (handed : Handed) (empty : Bool) → (IsTrue empty ↔ (sent ≡ [])) → is_some (left_by s.past (h.course.earlier ++ h.course.call ∷ [])).out ≡ true → IsTrue (has_spelling m)
+  pub handles : came.taken + 1 ≤ 1000000 → (lines : List TraceLine) (sent : List Message) (handed : Handed) → (Z → l.is_up ≡ true → handed ≡ Whole) → (empty : Bool) → (IsTrue empty ↔ (sent ≡ [])) → is_some (left_by s.past (h.course.earlier ++ h.course.call ∷ [])).out ≡ true → IsTrue (has_spelling m)
       → misfit k.schema (left_by s.past (h.course.earlier ++ h.course.call ∷ [])).out (left_by s.past (h.course.earlier ++ h.course.call ∷ [])).laid
       (left_by s.past (h.course.earlier ++ h.course.call ∷ [])).version m ≡ None
       → Makes Stands lent IsOf Has k code new (left_by s.past (h.course.earlier ++ h.course.call ∷ [])) (Took m) lines sent
       → Carries k.says handed l new_l w new_w (spelled sent) (flat_map (line_text k.schema line) lines) → Handles C Stands lent IsOf Has k (handled_by handed (not empty)) s ahead line came failed m new_l new_w after new
-  handles most lines sent handed empty is_empty some is fits made carries =
+  handles most lines sent handed calm empty is_empty some is fits made carries =
       by handed sent empty is_empty
       (hands-up C Stands lent IsOf Has k s ahead ahead line came line Delivered code new (Took m) lines sent refl (most-more sent most) failed l new_l w new_w (spelling m ++ after) after h made (refl, some-out C Stands lent IsOf Has k s ahead line came failed l w (spelling m ++ after) code h some, is, fits) tt refl
-      handed (is-up C Stands lent IsOf Has k s ahead line came failed l w (spelling m ++ after) code h some)
+      handed calm (is-up C Stands lent IsOf Has k s ahead line came failed l w (spelling m ++ after) code h some)
       (made.link.0 ∙ is-up C Stands lent IsOf Has k s ahead line came failed l w (spelling m ++ after) code h some) (ap (λ x. x ++ after) (sym (append-nil (spelling m)))) carries)
     where
       by : (handed : Handed) (sent : List Message) (empty : Bool) → (IsTrue empty ↔ (sent ≡ [])) → Hands C Stands lent IsOf Has k handed s ahead line (more_if sent came) failed new_l new_w after new

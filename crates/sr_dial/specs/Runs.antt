@@ -1,5 +1,5 @@
 -- What a run of `client` did, over any link, and how it ended.
-use Rattle.std.specs.Prelude.{ℕ, Bool, true, false, List, [], ◌∷◌, ◌++◌, ◌||◌, ◌+◌, ◌≤◌, flat_map, ◌≡◌, ◌≢◌, Option, Some, None, IfSome, IsTrue, option_to_list}
+use Rattle.std.specs.Prelude.{ℕ, Bool, true, false, List, [], ◌∷◌, ◌++◌, ◌||◌, ◌+◌, ◌≤◌, flat_map, length, ◌≡◌, ◌≢◌, Option, Some, None, IfSome, IsTrue, option_to_list}
 use Rattle.std.specs.Io.KnownBytes.{Appends}
 use Rattle.std.specs.List.{list_any, All}
 use Rattle.sr_cell.specs.declared.table.Table.{Table}
@@ -20,6 +20,7 @@ use Rattle.sr_links.specs.Honest.{IsPrefix}
 use Rattle.sr_links.specs.Steps.{AreFair, Standing, code_after, Deed, Took, WasCut, given_of, requests_of, past_after}
 use Rattle.sr_dial.specs.Calls.{Call, Cause, Scripted, Delivered, Failed, Done, Made, Explained, Said, Task, AreCalls, all_done, calls_told, count_faults, done_in, fails, steps_in}
 use Rattle.sr_plan.specs.Plans.{Plan, Over, GoBy, begun, left}
+use Rattle.sr_talk.specs.Rounds.{HasPeers}
 use Rattle.sr_talk.specs.Serving.{RoseBy, spelled}
 use Rattle.sr_dial.specs.Following.{dids_of, stage_by}
 use Rattle.sr_dial.specs.Known.{AreFairlyExplained, IsFrom, Setting, said_by}
@@ -204,6 +205,16 @@ pub record RanTo (C : Type 0) (Stands : C → Client → Type 0) (IsOf : Standin
   pub run : RanFairly C IsOf Has k code c address plan ended old new before after
   pub code_is : is_bad ended ≡ false → code_after code (steps_in (all_done (run.ran.earlier ++ run.ran.last ∷ []))) ≡ left
   pub stands : is_bad ended ≡ false → Stands left (left_by c (run.ran.earlier ++ run.ran.last ∷ []))
+
+-- Over a steady host that has a peer for each of these calls no fault is counted, neither of a call nor by the link: each failure is that a
+-- connection ended by itself while a request was out.
+abbrev pub LinksSteadily : {C : Type 0} → Type 0 → List (Call C) → Linking → Linking → Type 0
+LinksSteadily {C} Steady calls old new = Steady → HasPeers (length calls) old → (count_faults calls ≡ 0) × (new.faults ≡ old.faults)
+
+-- And so it is of such a run.
+pub record RanSteadily (C : Type 0) (Steady : Type 0) (Stands : C → Client → Type 0) (IsOf : Standing C) (Has : Holding C) (k : Setting) (code : C) (c : Client) (address : List ℕ) (plan : Plan Task Answer) (ended : Ending) (old new : Linking) (before after : Writing) (left : C) : Type 0 where
+  pub to : RanTo C Stands IsOf Has k code c address plan ended old new before after left
+  pub steady_links : LinksSteadily Steady (to.run.ran.earlier ++ to.run.ran.last ∷ []) old new
 
 -- Out of memory: calls that were over, and one that was cut short, or none. What was done went by the plan and is fair, as above, and what
 -- was sent and written is a beginning of what it gives: all requests but the last, of which some bytes may be missing, and of the lines as

@@ -42,8 +42,9 @@ fn start<H: Host, C: Asks>(
 ) -> Result<Handed, NoMemory>
     requires asks { (task : Task) × IsJob (C.setting client.old).schema job task }
     requires room { 2 ≤ C.room client.old }
-    ensures started { StartsJob C.Asks H.linking H.writing result schema.now address.now job host.old host.new feed.old feed.new client.old client.new }
-    ensures broken_off { JobOff C.Asks H.linking H.writing result schema.now address.now job host.old host.new feed.old client.old }
+    ensures started { StartsJob C.Asks H.linking H.writing H.IsSteady result schema.now address.now job
+        host.old host.new feed.old feed.new client.old client.new }
+    ensures broken_off { JobOff C.Asks H.linking H.writing H.IsSteady result schema.now address.now job host.old host.new feed.old client.old }
     ensures setting { C.setting client.new ≡ C.setting client.old }
     ensures draws { C.room client.old ≤ C.room client.new + 2 }
     ensures stays { OnlyOutput H H.reading H.held H.complaints H.IsSteady host.old host.new }
@@ -67,8 +68,9 @@ fn start_line<H: Host, C: Asks>(
 ) -> Result<Handed, NoMemory>
     requires asks { (task : Task) × IsTask (C.setting client.old).schema line.event task }
     requires room { 2 ≤ C.room client.old }
-    ensures started { StartsLine C.Asks H.linking H.writing result schema.now address.now line host.old host.new feed.old feed.new client.old client.new }
-    ensures broken_off { LineOff C.Asks H.linking H.writing result schema.now address.now line host.old host.new feed.old client.old }
+    ensures started { StartsLine C.Asks H.linking H.writing H.IsSteady result schema.now address.now line
+        host.old host.new feed.old feed.new client.old client.new }
+    ensures broken_off { LineOff C.Asks H.linking H.writing H.IsSteady result schema.now address.now line host.old host.new feed.old client.old }
     ensures setting { C.setting client.new ≡ C.setting client.old }
     ensures draws { C.room client.old ≤ C.room client.new + 2 }
     ensures stays { OnlyOutput H H.reading H.held H.complaints H.IsSteady host.old host.new }
@@ -111,8 +113,8 @@ fn run_job<H: Host, C: Asks>(
 ) -> Result<LineEnd, NoMemory>
     requires asks { (task : Task) × IsJob (C.setting client.old).schema job task }
     requires room { 4000004 ≤ C.room client.old }
-    ensures ended { EndsJob C.Asks H.linking H.writing result schema.now address.now job host.old host.new feed.old feed.new client.old client.new }
-    ensures broken_off { JobOff C.Asks H.linking H.writing result schema.now address.now job host.old host.new feed.old client.old }
+    ensures ended { EndsJob C.Asks H.linking H.writing H.IsSteady result schema.now address.now job host.old host.new feed.old feed.new client.old client.new }
+    ensures broken_off { JobOff C.Asks H.linking H.writing H.IsSteady result schema.now address.now job host.old host.new feed.old client.old }
     ensures setting { C.setting client.new ≡ C.setting client.old }
     ensures draws { C.room client.old ≤ C.room client.new + 4000004 }
     ensures stays { OnlyOutput H H.reading H.held H.complaints H.IsSteady host.old host.new }
@@ -134,8 +136,8 @@ fn finish<H: Host, C: Asks>(
     handed: Handed,
 ) -> Result<LineEnd, NoMemory>
     requires room { 4000002 ≤ C.room client.old }
-    ensures ended { EndsHanded C.Asks H.linking H.writing result schema.now number handed host.old host.new feed.old feed.new client.old client.new }
-    ensures broken_off { HandedOff C.Asks H.linking H.writing result schema.now number handed host.old host.new feed.old client.old }
+    ensures ended { EndsHanded C.Asks H.linking H.writing H.IsSteady result schema.now number handed host.old host.new feed.old feed.new client.old client.new }
+    ensures broken_off { HandedOff C.Asks H.linking H.writing H.IsSteady result schema.now number handed host.old host.new feed.old client.old }
     ensures setting { C.setting client.new ≡ C.setting client.old }
     ensures draws { C.room client.old ≤ C.room client.new + 4000002 }
     ensures stays { OnlyOutput H H.reading H.held H.complaints H.IsSteady host.old host.new }
@@ -158,8 +160,8 @@ fn settle<H: Host, C: Asks>(
     number: u64,
 ) -> Result<LineEnd, NoMemory>
     requires room { 4000002 ≤ C.room client.old }
-    ensures ended { Settles C.Asks H.linking H.writing result schema.now number host.old host.new feed.old feed.new client.old client.new }
-    ensures broken_off { AwaitsOff C.Asks H.linking H.writing result schema.now number host.old host.new feed.old client.old }
+    ensures ended { Settles C.Asks H.linking H.writing H.IsSteady result schema.now number host.old host.new feed.old feed.new client.old client.new }
+    ensures broken_off { AwaitsOff C.Asks H.linking H.writing H.IsSteady result schema.now number host.old host.new feed.old client.old }
     ensures setting { C.setting client.new ≡ C.setting client.old }
     ensures draws { C.room client.old ≤ C.room client.new + 4000002 }
     ensures stays { OnlyOutput H H.reading H.held H.complaints H.IsSteady host.old host.new }
@@ -184,8 +186,8 @@ fn failed<H: Host, C: Asks>(
     number: u64,
 ) -> Result<LineEnd, NoMemory>
     requires room { 2 ≤ C.room client.old }
-    ensures ended { EndsFailed C.Asks H.linking H.writing result schema.now number host.old host.new client.old client.new }
-    ensures broken_off { FailedOff C.Asks H.linking H.writing result schema.now number host.old host.new client.old }
+    ensures ended { EndsFailed C.Asks H.linking H.writing H.IsSteady result schema.now number host.old host.new client.old client.new }
+    ensures broken_off { FailedOff C.Asks H.linking H.writing H.IsSteady result schema.now number host.old host.new client.old }
     ensures setting { C.setting client.new ≡ C.setting client.old }
     ensures draws { C.room client.old ≤ C.room client.new + 2 }
     ensures stays { OnlyOutput H H.reading H.held H.complaints H.IsSteady host.old host.new }
@@ -218,9 +220,10 @@ fn run_plan<H: Host, C: Asks, P: Plans>(
 ) -> Result<Ending, NoMemory>
     requires asks { (ahead : Ahead) × P.follows (C.setting client.old).schema plans.old ahead }
     requires room { 4000004 * P.depth plans.old ≤ C.room client.old }
-    ensures ended { RunsAll C.Asks H.linking H.writing P.follows result schema.now address.now failed plans.old
+    ensures ended { RunsAll C.Asks H.linking H.writing H.IsSteady P.follows result schema.now address.now failed plans.old
         host.old host.new feed.old feed.new client.old client.new }
-    ensures broken_off { PlanOff C.Asks H.linking H.writing P.follows result schema.now address.now failed plans.old host.old host.new feed.old client.old }
+    ensures broken_off { PlanOff C.Asks H.linking H.writing H.IsSteady P.follows result schema.now address.now failed plans.old
+        host.old host.new feed.old client.old }
     ensures setting { C.setting client.new ≡ C.setting client.old }
     ensures stays { OnlyOutput H H.reading H.held H.complaints H.IsSteady host.old host.new }
     ensures steady_writes { H.IsSteady host.old → IfOk result (λ ending. ending ≢ EndsUnwritten) }
@@ -257,8 +260,8 @@ fn first_line<H: Host, C: Asks>(
     address: &str,
 ) -> Result<LineEnd, NoMemory>
     requires room { 4000004 ≤ C.room client.old }
-    ensures ended { EndsFirst C.Asks H.linking H.writing result schema.now address.now host.old host.new feed.new client.old client.new }
-    ensures broken_off { FirstOff C.Asks H.linking H.writing result schema.now address.now host.old host.new client.old }
+    ensures ended { EndsFirst C.Asks H.linking H.writing H.IsSteady result schema.now address.now host.old host.new feed.new client.old client.new }
+    ensures broken_off { FirstOff C.Asks H.linking H.writing H.IsSteady result schema.now address.now host.old host.new client.old }
     ensures setting { C.setting client.new ≡ C.setting client.old }
     ensures draws { C.room client.old ≤ C.room client.new + 4000004 }
     ensures stays { OnlyOutput H H.reading H.held H.complaints H.IsSteady host.old host.new }
@@ -282,9 +285,10 @@ fn go_on<H: Host, C: Asks, P: Plans>(
 ) -> Result<Ending, NoMemory>
     requires asks { (ahead : Ahead) × P.follows (C.setting client.old).schema plans.old ahead }
     requires room { 4000004 * P.depth plans.old ≤ C.room client.old }
-    ensures ended { GoesOnWith C.Asks H.linking H.writing P.follows result schema.now address.now end plans.old
+    ensures ended { GoesOnWith C.Asks H.linking H.writing H.IsSteady P.follows result schema.now address.now end plans.old
         host.old host.new feed.old feed.new client.old client.new }
-    ensures broken_off { GoesOnOff C.Asks H.linking H.writing P.follows result schema.now address.now end plans.old host.old host.new feed.old client.old }
+    ensures broken_off { GoesOnOff C.Asks H.linking H.writing H.IsSteady P.follows result schema.now address.now end plans.old
+        host.old host.new feed.old client.old }
     ensures setting { C.setting client.new ≡ C.setting client.old }
     ensures stays { OnlyOutput H H.reading H.held H.complaints H.IsSteady host.old host.new }
     ensures steady_writes { H.IsSteady host.old → end ≢ LineEnds EndsUnwritten → IfOk result (λ ending. ending ≢ EndsUnwritten) }
@@ -311,8 +315,8 @@ pub fn run<H: Host, C: Asks, P: Plans>(
     requires asks { (ahead : Ahead) × P.follows (C.setting client.old).schema plans.old ahead }
     requires room { 4000004 * (P.depth plans.old + 1) ≤ C.room client.old }
     requires fresh { C.lent client.old ≡ None }
-    ensures ran { RunsFrom C.Asks H.linking H.writing P.follows result schema.now address.now plans.old host.old host.new client.old client.new }
-    ensures broken_off { RunsOff C.Asks H.linking H.writing P.follows result schema.now address.now plans.old host.old host.new client.old }
+    ensures ran { RunsFrom C.Asks H.linking H.writing H.IsSteady P.follows result schema.now address.now plans.old host.old host.new client.old client.new }
+    ensures broken_off { RunsOff C.Asks H.linking H.writing H.IsSteady P.follows result schema.now address.now plans.old host.old host.new client.old }
     ensures setting { C.setting client.new ≡ C.setting client.old }
     ensures stays { OnlyOutput H H.reading H.held H.complaints H.IsSteady host.old host.new }
     ensures steady_writes { H.IsSteady host.old → IfOk result (λ ending. ending ≢ EndsUnwritten) }

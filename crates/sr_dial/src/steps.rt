@@ -102,6 +102,7 @@ pub(crate) fn carry<H: Link + Sink>(
     ensures broken_off { CarriesOff H.linking H.writing result says schema.now number told.now host.old host.new }
     ensures stays { OnlyOutput H H.reading H.held H.complaints H.IsSteady host.old host.new }
     ensures steady_writes { H.IsSteady host.old → IfOk result (λ handed. handed ≢ HandedUnwritten) }
+    ensures steady_links { H.IsSteady host.old → (H.linking host.old).is_up ≡ true → IfOk result (λ handed. handed ≡ HandedWhole) }
 {
     let sent = send_messages(alloc, host, told.sent.as_slice())?;
     if !say(alloc, host, schema, number, says, told.lines.as_slice())? {
@@ -147,8 +148,8 @@ pub(crate) fn ask<H: Link + Sink, C: Asks>(
 ) -> Result<Handed, NoMemory>
     requires asks { (deed : Deed) × IsDeed (C.setting client.old).schema event deed }
     requires room { 2 ≤ C.room client.old }
-    ensures asked { AsksPlain C.Asks H.linking H.writing result schema.now number event host.old host.new client.old client.new }
-    ensures broken_off { PlainOff C.Asks H.linking H.writing result schema.now number event host.old host.new client.old }
+    ensures asked { AsksPlain C.Asks H.linking H.writing H.IsSteady result schema.now number event host.old host.new client.old client.new }
+    ensures broken_off { PlainOff C.Asks H.linking H.writing H.IsSteady result schema.now number event host.old host.new client.old }
     ensures setting { C.setting client.new ≡ C.setting client.old }
     ensures draws { C.room client.old ≤ C.room client.new + 2 }
     ensures stays { OnlyOutput H H.reading H.held H.complaints H.IsSteady host.old host.new }
@@ -168,8 +169,8 @@ pub(crate) fn tell<K: Sink, C: Asks>(
     query: Result<Query, Fault>,
 ) -> Result<Handed, NoMemory>
     requires means { (text : Result TheQuery TheFault) × Means (C.setting client.now).schema query text }
-    ensures told { TellsText C.Asks K.linking K.writing result schema.now number query sink.old sink.new client.now }
-    ensures broken_off { TellsOff C.Asks K.linking K.writing result schema.now number query sink.old sink.new client.now }
+    ensures told { TellsText C.Asks K.linking K.writing K.IsSteady result schema.now number query sink.old sink.new client.now }
+    ensures broken_off { TellsOff C.Asks K.linking K.writing K.IsSteady result schema.now number query sink.old sink.new client.now }
     ensures stays { OnlyOutput K K.reading K.held K.complaints K.IsSteady sink.old sink.new }
     ensures linking_stays { K.linking sink.new ≡ K.linking sink.old }
     ensures steady_writes { K.IsSteady sink.old → IfOk result (λ handed. handed ≢ HandedUnwritten) }
@@ -186,8 +187,8 @@ pub(crate) fn write<K: Sink, C: Asks>(
     number: u64,
     text: &str,
 ) -> Result<Handed, NoMemory>
-    ensures told { WritesText C.Asks K.linking K.writing result number text.now sink.old sink.new client.now }
-    ensures broken_off { WritesOff C.Asks K.linking K.writing result number text.now sink.old sink.new client.now }
+    ensures told { WritesText C.Asks K.linking K.writing K.IsSteady result number text.now sink.old sink.new client.now }
+    ensures broken_off { WritesOff C.Asks K.linking K.writing K.IsSteady result number text.now sink.old sink.new client.now }
     ensures stays { OnlyOutput K K.reading K.held K.complaints K.IsSteady sink.old sink.new }
     ensures linking_stays { K.linking sink.new ≡ K.linking sink.old }
     ensures steady_writes { K.IsSteady sink.old → IfOk result (λ handed. handed ≢ HandedUnwritten) }
@@ -210,8 +211,8 @@ pub(crate) fn end<H: Host, C: Asks>(
 ) -> Result<Handed, NoMemory>
     requires asks { (deed : Deed) × IsDeed (C.setting client.old).schema event deed }
     requires room { 2 ≤ C.room client.old }
-    ensures cut { CutsLink C.Asks H.linking H.writing result schema.now number event host.old host.new client.old client.new }
-    ensures broken_off { CutsOff C.Asks H.linking H.writing result schema.now number event host.old host.new client.old }
+    ensures cut { CutsLink C.Asks H.linking H.writing H.IsSteady result schema.now number event host.old host.new client.old client.new }
+    ensures broken_off { CutsOff C.Asks H.linking H.writing H.IsSteady result schema.now number event host.old host.new client.old }
     ensures hangs_up { IfOk result (λ handed. (H.linking host.new).is_up ≡ false) }
     ensures setting { C.setting client.new ≡ C.setting client.old }
     ensures draws { C.room client.old ≤ C.room client.new + 2 }
@@ -236,8 +237,9 @@ pub(crate) fn begin<H: Host, C: Asks>(
 ) -> Result<Handed, NoMemory>
     requires asks { (deed : Deed) × IsDeed (C.setting client.old).schema event deed }
     requires room { 2 ≤ C.room client.old }
-    ensures begun { BeginsLink C.Asks H.linking H.writing result schema.now address.now number event host.old host.new feed.old feed.new client.old client.new }
-    ensures broken_off { BeginsOff C.Asks H.linking H.writing result schema.now address.now number event host.old host.new feed.old client.old }
+    ensures begun { BeginsLink C.Asks H.linking H.writing H.IsSteady result schema.now address.now number event
+        host.old host.new feed.old feed.new client.old client.new }
+    ensures broken_off { BeginsOff C.Asks H.linking H.writing H.IsSteady result schema.now address.now number event host.old host.new feed.old client.old }
     ensures setting { C.setting client.new ≡ C.setting client.old }
     ensures draws { C.room client.old ≤ C.room client.new + 2 }
     ensures stays { OnlyOutput H H.reading H.held H.complaints H.IsSteady host.old host.new }
@@ -274,8 +276,8 @@ pub(crate) fn fail<H: Host, C: Asks>(
     number: u64,
 ) -> Result<bool, NoMemory>
     requires room { 2 ≤ C.room client.old }
-    ensures failed { FailsLink C.Asks H.linking H.writing result schema.now number host.old host.new client.old client.new }
-    ensures broken_off { FailsOff C.Asks H.linking H.writing result schema.now number host.old host.new client.old }
+    ensures failed { FailsLink C.Asks H.linking H.writing H.IsSteady result schema.now number host.old host.new client.old client.new }
+    ensures broken_off { FailsOff C.Asks H.linking H.writing H.IsSteady result schema.now number host.old host.new client.old }
     ensures hangs_up { IfOk result (λ all. (H.linking host.new).is_up ≡ false) }
     ensures setting { C.setting client.new ≡ C.setting client.old }
     ensures draws { C.room client.old ≤ C.room client.new + 2 }

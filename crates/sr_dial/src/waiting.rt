@@ -89,8 +89,8 @@ fn handle<H: Link + Sink, C: Asks>(
     message: Message,
 ) -> Result<Handled, NoMemory>
     requires room { 2 ≤ C.room client.old }
-    ensures handled { HandlesOne C.Asks H.linking H.writing result schema.now number message host.old host.new client.old client.new }
-    ensures broken_off { HandlesOff C.Asks H.linking H.writing result schema.now number message host.old host.new client.old }
+    ensures handled { HandlesOne C.Asks H.linking H.writing H.IsSteady result schema.now number message host.old host.new client.old client.new }
+    ensures broken_off { HandlesOff C.Asks H.linking H.writing H.IsSteady result schema.now number message host.old host.new client.old }
     ensures setting { C.setting client.new ≡ C.setting client.old }
     ensures draws { C.room client.old ≤ C.room client.new + 2 }
     ensures stays { OnlyOutput H H.reading H.held H.complaints H.IsSteady host.old host.new }
@@ -136,8 +136,8 @@ pub(crate) fn await_answer<H: Link + Sink, C: Asks>(
     number: u64,
 ) -> Result<Awaited, NoMemory>
     requires room { 4000000 ≤ C.room client.old }
-    ensures awaited { Awaits C.Asks H.linking H.writing result schema.now number host.old host.new feed.old feed.new client.old client.new }
-    ensures broken_off { AwaitsOff C.Asks H.linking H.writing result schema.now number host.old host.new feed.old client.old }
+    ensures awaited { Awaits C.Asks H.linking H.writing H.IsSteady result schema.now number host.old host.new feed.old feed.new client.old client.new }
+    ensures broken_off { AwaitsOff C.Asks H.linking H.writing H.IsSteady result schema.now number host.old host.new feed.old client.old }
     ensures setting { C.setting client.new ≡ C.setting client.old }
     ensures draws { C.room client.old ≤ C.room client.new + 4000000 }
     ensures stays { OnlyOutput H H.reading H.held H.complaints H.IsSteady host.old host.new }
@@ -177,8 +177,8 @@ fn end_of_many<H: Link + Sink, C: Asks>(
     client: &C,
     number: u64,
 ) -> Result<Awaited, NoMemory>
-    ensures awaited { EndsMany C.Asks H.linking H.writing result number host.old host.new feed.old feed.new client.now }
-    ensures broken_off { ManyOff C.Asks H.linking H.writing result number host.old host.new feed.old client.now }
+    ensures awaited { EndsMany C.Asks H.linking H.writing H.IsSteady result number host.old host.new feed.old feed.new client.now }
+    ensures broken_off { ManyOff C.Asks H.linking H.writing H.IsSteady result number host.old host.new feed.old client.now }
     ensures stays { OnlyOutput H H.reading H.held H.complaints H.IsSteady host.old host.new }
     ensures not_unwritten { IfOk result (λ how. how ≢ AwaitedUnwritten) }
 {

@@ -4,14 +4,10 @@ use Rattle.std.specs.Prelude.{◌&&◌, Option, Some, None, Result, Ok, Err}
 use Rattle.std.specs.Option.{is_some}
 use Rattle.sr_cell.specs.Clients.{most_clients}
 use Rattle.sr_keyset.specs.Lines.{are_own, words_at, words_from}
-use Rattle.sr_lines.specs.Script.{Line, Silent, CreateLine, EventLine, Words, LinePlace, line_of}
+use Rattle.sr_lines.specs.Script.{Line, Silent, CreateLine, EventLine, Words, line_of}
 use Rattle.sr_setup.specs.ClientFiles.{client_fault, doer_of, read_fault, words_fault}
-use Rattle.sr_setup.specs.Files.{first_fault, or_later}
-
--- a line without a fault, before others without one
-both-good : (i : ℕ) (later : Option LinePlace) (at : Option ℕ) → or_later i later at ≡ None → (at ≡ None) × (later ≡ None)
-both-good i later None good = (refl, good)
-both-good i later (Some place) good = absurd cc
+use Rattle.sr_setup.specs.Files.{first_fault}
+use Rattle.sr_setup.proofs.ClientWalks.{first_good}
 
 own-doer : (id : ℕ) (line : List ℕ) (doer : Option ℕ) → words_fault id line doer ≡ None → is_some doer ≡ true
 own-doer id line None good = absurd cc
@@ -35,5 +31,5 @@ own-both (x ∷ xs) ys one other = go (is_some (doer_of x.1)) one (own-both xs y
 pub own-words : (id n : ℕ) (lines : List (List ℕ)) → first_fault (client_fault id) n lines ≡ None → are_own (words_from n lines) ≡ true
 own-words id n [] good = refl
 own-words id n (line ∷ lines) good =
-    let both = both-good n (first_fault (client_fault id) (n + 1) lines) (client_fault id line) good in
+    let both = first_good (client_fault id) n line lines good in
     own-both (words_at n (line_of most_clients line)) (words_from (n + 1) lines) (own-line id n line (line_of most_clients line) both.0) (own-words id (n + 1) lines both.1)

@@ -6,7 +6,7 @@ use Rattle.sr_answers.specs.Answers.{IsTold}
 use Rattle.sr_answers.specs.Texts.{AllSaid, SaysSuch}
 use Rattle.sr_dial.specs.Calls.{Task, Do, Done, one_if, steps_in}
 use Rattle.sr_dial.specs.Following.{Ahead, dids_of}
-use Rattle.sr_dial.specs.Honest.{IsAskedFor}
+use Rattle.sr_dial.specs.Honest.{AsksFew, IsAskedFor}
 use Rattle.sr_dial.specs.Runs.{AreInPlace}
 use Rattle.sr_dial.specs.declared.parts.Answer.{Answer}
 use Rattle.sr_keyset.specs.Lines.{words_in}
@@ -32,6 +32,10 @@ TasksAreAskedFor = (schema : List Table) (said : Said) (lines : List (ℕ × Wor
 -- So it is of what a client's files ask for.
 abbrev pub FilesAskForNone : Type 0
 FilesAskForNone = (id : ℕ) (schema script : List ℕ) (tables : List Table) (ahead : Ahead) → AsksKeySets id schema script tables ahead → AllTasks IsAskedFor (ahead None)
+
+-- Each query that they ask has at most four parts: as those of a script, so few that over an honest link too many frames never come for one.
+abbrev pub FilesAskFew : Type 0
+FilesAskFew = (id : ℕ) (schema script : List ℕ) (tables : List Table) (ahead : Ahead) → AsksKeySets id schema script tables ahead → AllTasks AsksFew (ahead None)
 
 -- ---- how many queries are run
 

@@ -1,5 +1,5 @@
 //! Laws of the plan: functions that do nothing, and whose contracts are the laws.
-ghost use Rattle.sr_keyset.specs.Laws.{FewQueries, FilesAskForNone, KeySetsAreRight, TasksAreAskedFor, WhatIsWrittenIsRight};
+ghost use Rattle.sr_keyset.specs.Laws.{FewQueries, FilesAskFew, FilesAskForNone, KeySetsAreRight, TasksAreAskedFor, WhatIsWrittenIsRight};
 
 /// No task of the plan is to take a message.
 pub fn tasks_are_asked_for()
@@ -9,6 +9,11 @@ pub fn tasks_are_asked_for()
 /// No task that the files of a client ask for is to take a message.
 pub fn files_ask_for_none()
     ensures { FilesAskForNone }
+{}
+
+/// No query that the files of a client ask has more than four parts.
+pub fn files_ask_few()
+    ensures { FilesAskFew }
 {}
 
 /// For no line of a script more than four queries are run, in any run of its files.

@@ -1,4 +1,5 @@
-//! The program: replays a script, explains a query behind it, serves tables, runs a client of a server, or makes a script.
+//! The program: replays a script, explains a query behind it, serves tables, runs a client of a server, saves what it holds or starts from that, or makes
+//! a script.
 #![tactic(auto)]
 
 ghost use Rattle.std.specs.Prelude.{◌≡◌, map, drop, string_bytes, IfOk};

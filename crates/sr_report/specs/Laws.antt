@@ -12,7 +12,7 @@ use Rattle.sr_links.specs.Steps.{Resumed}
 use Rattle.sr_plan.specs.Plans.{AllTasks, GoBy, Next, begun}
 use Rattle.sr_dial.specs.Calls.{Done, Do, steps_in}
 use Rattle.sr_dial.specs.Following.{Ahead, dids_of}
-use Rattle.sr_dial.specs.Honest.{IsAskedFor}
+use Rattle.sr_dial.specs.Honest.{AsksFew, IsAskedFor}
 use Rattle.sr_dial.specs.Runs.{AreInPlace}
 use Rattle.sr_answers.specs.Texts.{AllSaid}
 use Rattle.sr_agg.specs.declared.agg.AggFault.{AggFault}
@@ -25,6 +25,10 @@ use Rattle.sr_report.specs.Texts.{refused_text, groups_text}
 -- No line of a report asks its client to take a message.
 abbrev pub ReportsAsk : Type 0
 ReportsAsk = (id : ℕ) (schema script : List ℕ) (tables : List Table) (ahead : Ahead) → AsksReport id schema script tables ahead → AllTasks IsAskedFor (ahead None)
+
+-- Each query that it asks has at most four parts: as those of a script, so few that over an honest link too many frames never come for one.
+abbrev pub ReportsAskFew : Type 0
+ReportsAskFew = (id : ℕ) (schema script : List ℕ) (tables : List Table) (ahead : Ahead) → AsksReport id schema script tables ahead → AllTasks AsksFew (ahead None)
 
 -- ---- what is written
 

@@ -22,6 +22,10 @@ client --id 1 --schema= a f
 client --id 1 --schema s  f
 client --rows 1 --regions 2 --policy distance --id 3 --schema s 127.0.0.1:4711 f
 report --id 1 --schema s --regions 0 a f
+save --id 1 --schema s a f
+save a --rows 1 --id=2 --schema=- f
+warm --id 1 --schema s a f i
+warm a --id=64 f --policy distance --schema s -
 serve --schema s a 1
 serve --log 5 --exec e --schema s a 1000000 t=g u=h
 serve --schema s --exec= a 1
@@ -79,6 +83,12 @@ report --id 1 a f
 report --id 1 --schema s a f g
 report --eager --id 1 --schema s a f
 Report --id 1 --schema s a f
+save --id 1 --schema s a f i
+save --id 0 --schema s a f
+save --eager --id 1 --schema s a f
+warm --id 1 --schema s a f
+warm --id 1 --schema s a f i j
+warm --id 65 --schema s a f i
 semi --id 65 --schema s a f
 semi --id 1 --schema s a f g
 serve a 1

@@ -1,5 +1,5 @@
 -- The numbers of a command are in their ranges.
-use Rattle.std.proofs.Common.{◌≡◌, ℕ, ◌≤◌, Bool, true, false, List, [], ◌∷◌, Option, Some, None, refl, subst, codes, arith}
+use Rattle.std.proofs.Common.{◌≡◌, ℕ, ◌≤◌, Bool, true, false, List, [], ◌∷◌, Option, Some, None, refl, sym, ap, subst, codes, arith}
 use Rattle.std.specs.Prelude.{◌&&◌, nat_le, option_and_then, option_map, if◌then◌else◌, Result, Ok, Err, IfOk}
 use Rattle.std.specs.Str.{bytes_eq}
 use Rattle.std.specs.Str.Parse.{digits_value}
@@ -8,17 +8,19 @@ use Rattle.std.proofs.lemmas.Bool.Decides.{nat_tests}
 use Rattle.clap.specs.Walk.{Row, first_of}
 use Rattle.sr_policy.specs.declared.policy.Limits.{Limits}
 use Rattle.sr_words.specs.declared.command.Command.{Command}
-use Rattle.sr_words.specs.declared.command.Command.TheVariants.{Replay, Client, Serve, Explain, Generate}
+use Rattle.sr_words.specs.declared.command.Command.TheVariants.{Replay, Client, Save, Warm, Serve, Explain, Generate}
 use Rattle.sr_words.specs.declared.command.Setup.{Setup}
 use Rattle.sr_words.specs.declared.command.ReplayWords.{ReplayWords}
 use Rattle.sr_words.specs.declared.command.ClientKind.{ClientKind}
+use Rattle.sr_words.specs.declared.command.ClientKind.TheVariants as kind
 use Rattle.sr_words.specs.declared.command.ClientWords.{ClientWords}
+use Rattle.sr_words.specs.declared.command.WarmWords.{WarmWords}
 use Rattle.sr_words.specs.declared.command.ServeWords.{ServeWords}
 use Rattle.sr_words.specs.declared.command.ExplainWords.{ExplainWords}
 use Rattle.sr_words.specs.declared.command.GenerateWords.{GenerateWords}
-use Rattle.sr_words.specs.Forms.{rows_in, replay_form, client_form, serve_form, explain_form, generate_form}
-use Rattle.sr_words.specs.Words.{are_digits, number_of, number_or, number_in, policy_of, loads_of, limits_of, log_of, setup_of, replay_of, client_of, serve_of, explain_of, generate_of, replay_words, client_words, kind_of, kind_words, serve_words, explain_words, generate_words, command_by, command_of}
-use Rattle.sr_words.specs.Ranges.{AreLimits, IsSetup, IsInRange}
+use Rattle.sr_words.specs.Forms.{rows_in, replay_form, client_form, warm_form, serve_form, explain_form, generate_form}
+use Rattle.sr_words.specs.Words.{are_digits, number_of, number_or, number_in, policy_of, loads_of, limits_of, log_of, setup_of, replay_of, client_of, warm_of, serve_of, explain_of, generate_of, replay_words, client_words, kind_of, kind_words, save_words, warm_words, serve_words, explain_words, generate_words, command_by, command_of}
+use Rattle.sr_words.specs.Ranges.{AreLimits, IsSetup, IsPlain, IsInRange}
 use Rattle.sr_words.specs.Reads.{Reads}
 use Rattle.sr_words.specs.declared.fault.WordsFault.{WordsFault}
 
@@ -120,6 +122,25 @@ generate found said is =
     let range = within_in 1 100000 (first_of (codes "events") found) events.0 events.1 in
     subst (λ w. IsInRange (Generate w)) (same _ said events.2) (range.0, range.1)
 
+plain : (found : List Row) (said : ClientWords) → client_of kind.Client found ≡ Some said → IsPlain said
+plain found said is =
+    let kept = step _ (limits_of found) said is in
+    let id = step _ (number_in 1 64 (first_of (codes "id") found)) said kept.2 in
+    let schema = step _ (first_of (codes "schema") found) said id.2 in
+    let address = step _ (first_of (codes "address") found) said schema.2 in
+    let script = step _ (first_of (codes "file") found) said address.2 in
+    let own : kind.Client ≡ said.kind = ap (λ (w : ClientWords). w.kind) (same _ said script.2) in
+    (client kind.Client found said is, sym own)
+
+save : (found : List Row) (said : ClientWords) → client_of kind.Client found ≡ Some said → IsInRange (Save said)
+save found said is = plain found said is
+
+warm : (found : List Row) (said : WarmWords) → warm_of found ≡ Some said → IsInRange (Warm said)
+warm found said is =
+    let own = step _ (client_of kind.Client found) said is in
+    let image = step _ (first_of (codes "image") found) said own.2 in
+    subst (λ w. IsInRange (Warm w)) (same _ said image.2) (plain found own.0 own.1)
+
 -- a command whose words are found in its form
 of_form : {W : Type 0} (make : W → Command) (read : List Row → Option W) (found : Option (List Row)) (said : Command)
     → ((rows : List Row) (words : W) → read rows ≡ Some words → IsInRange (make words))
@@ -138,20 +159,24 @@ of_kind name words said is =
     subst IsInRange read.2 (client kind.0 rows.0 read.0 rows.2)
 
 in_range_by : (name : List ℕ) (words : List (List ℕ)) (said : Command) → command_by name words ≡ Some said → IsInRange said
-in_range_by name words said = by (bytes_eq name (codes "replay")) (bytes_eq name (codes "serve")) (bytes_eq name (codes "explain")) (bytes_eq name (codes "generate"))
+in_range_by name words said = by (bytes_eq name (codes "replay")) (bytes_eq name (codes "serve")) (bytes_eq name (codes "explain")) (bytes_eq name (codes "generate")) (bytes_eq name (codes "save")) (bytes_eq name (codes "warm"))
   where
-    by : (r s e g : Bool)
+    by : (r s e g v w : Bool)
         → (if r then option_map Replay (replay_words words)
         else (if s then option_map Serve (serve_words words)
         else (if e then option_map Explain (explain_words words)
         else (if g then option_map Generate (generate_words words)
-        else option_map Client (kind_words name words))))) ≡ Some said
+        else (if v then option_map Save (save_words words)
+        else (if w then option_map Warm (warm_words words)
+        else option_map Client (kind_words name words))))))) ≡ Some said
         → IsInRange said
-    by true s e g is = of_form Replay replay_of (rows_in replay_form words) said replay is
-    by false true e g is = of_form Serve serve_of (rows_in serve_form words) said serve is
-    by false false true g is = of_form Explain explain_of (rows_in explain_form words) said explain is
-    by false false false true is = of_form Generate generate_of (rows_in generate_form words) said generate is
-    by false false false false is = of_kind name words said is
+    by true s e g v w is = of_form Replay replay_of (rows_in replay_form words) said replay is
+    by false true e g v w is = of_form Serve serve_of (rows_in serve_form words) said serve is
+    by false false true g v w is = of_form Explain explain_of (rows_in explain_form words) said explain is
+    by false false false true v w is = of_form Generate generate_of (rows_in generate_form words) said generate is
+    by false false false false true w is = of_form Save (client_of kind.Client) (rows_in (client_form (codes "save")) words) said save is
+    by false false false false false true is = of_form Warm warm_of (rows_in warm_form words) said warm is
+    by false false false false false false is = of_kind name words said is
 
 pub in_range : (words : List (List ℕ)) (said : Command) → command_of words ≡ Some said → IsInRange said
 unfolding command_of

@@ -61,6 +61,19 @@ client_form name = form name (
     ∷ word_rule (codes "file")
     ∷ [])
 
+-- `warm [--rows N] [--regions N] [--policy P] --id C --schema FILE ADDRESS FILE IMAGE`
+unfoldable pub warm_form : App
+warm_form = form (codes "warm") (
+    option_rule (codes "rows")
+    ∷ option_rule (codes "regions")
+    ∷ option_rule (codes "policy")
+    ∷ needed_rule (codes "id")
+    ∷ needed_rule (codes "schema")
+    ∷ word_rule (codes "address")
+    ∷ word_rule (codes "file")
+    ∷ word_rule (codes "image")
+    ∷ [])
+
 -- `serve [--log N] [--exec FILE] --schema FILE ADDRESS COUNT [TABLE=FILE ..]`
 unfoldable pub serve_form : App
 serve_form = form (codes "serve") (

@@ -8,15 +8,16 @@ use Rattle.clap.specs.Walk.{Row, all_of, first_of}
 use Rattle.sr_policy.specs.declared.policy.Limits.{Limits}
 use Rattle.sr_policy.specs.declared.policy.Policy.{Policy}
 use Rattle.sr_policy.specs.declared.policy.Policy.TheVariants.{Recency, Distance}
-use Rattle.sr_words.specs.Forms.{rows_in, replay_form, client_form, serve_form, explain_form, generate_form}
+use Rattle.sr_words.specs.Forms.{rows_in, replay_form, client_form, warm_form, serve_form, explain_form, generate_form}
 use Rattle.sr_words.specs.declared.command.Command.{Command}
-use Rattle.sr_words.specs.declared.command.Command.TheVariants.{Replay, Client, Serve, Explain, Generate}
+use Rattle.sr_words.specs.declared.command.Command.TheVariants.{Replay, Client, Save, Warm, Serve, Explain, Generate}
 use Rattle.sr_words.specs.declared.command.Setup.{Setup}
 use Rattle.sr_words.specs.declared.command.LoadWord.{LoadWord}
 use Rattle.sr_words.specs.declared.command.ReplayWords.{ReplayWords}
 use Rattle.sr_words.specs.declared.command.ClientKind.{ClientKind}
 use Rattle.sr_words.specs.declared.command.ClientKind.TheVariants as kind
 use Rattle.sr_words.specs.declared.command.ClientWords.{ClientWords}
+use Rattle.sr_words.specs.declared.command.WarmWords.{WarmWords}
 use Rattle.sr_words.specs.declared.command.ServeWords.{ServeWords}
 use Rattle.sr_words.specs.declared.command.ExplainWords.{ExplainWords}
 use Rattle.sr_words.specs.declared.command.GenerateWords.{GenerateWords}
@@ -160,6 +161,19 @@ kind_words name words = do
   kind ← kind_of name
   client_words name kind words
 
+-- `save` has the words of `client`, and `warm` has one more
+abbrev pub save_words : List (List ℕ) → Option ClientWords
+save_words words = client_words (codes "save") kind.Client words
+
+abbrev pub warm_of : List Row → Option WarmWords
+warm_of found = do
+  client ← client_of kind.Client found
+  image ← first_of (codes "image") found
+  Some (record { client = client; image = image })
+
+abbrev pub warm_words : List (List ℕ) → Option WarmWords
+warm_words words = rows_in warm_form words >>= warm_of
+
 abbrev pub serve_words : List (List ℕ) → Option ServeWords
 serve_words words = rows_in serve_form words >>= serve_of
 
@@ -176,7 +190,9 @@ command_by name words =
     else (if bytes_eq name (codes "serve") then option_map Serve (serve_words words)
     else (if bytes_eq name (codes "explain") then option_map Explain (explain_words words)
     else (if bytes_eq name (codes "generate") then option_map Generate (generate_words words)
-    else option_map Client (kind_words name words))))
+    else (if bytes_eq name (codes "save") then option_map Save (save_words words)
+    else (if bytes_eq name (codes "warm") then option_map Warm (warm_words words)
+    else option_map Client (kind_words name words))))))
 
 -- What the words ask for: the first of them names the command, and all are in its form. Other words ask for nothing.
 unfoldable pub command_of : List (List ℕ) → Option Command

@@ -8,6 +8,8 @@ use sr_policy::policy::Limits;
 pub enum Command {
     Replay(ReplayWords),
     Client(ClientWords),
+    Save(ClientWords),
+    Warm(WarmWords),
     Serve(ServeWords),
     Explain(ExplainWords),
     Generate(GenerateWords),
@@ -60,6 +62,13 @@ pub struct ClientWords {
     pub schema: Text,
     pub address: Text,
     pub script: Text,
+}
+
+/// Run a script as a client that starts from the image of that file.
+#[derive(Drop)]
+pub struct WarmWords {
+    pub client: ClientWords,
+    pub image: Text,
 }
 
 /// Serve so many connections at that address, one after another.

@@ -5,7 +5,7 @@ ghost use Rattle.clap.specs.Words.{found_of};
 ghost use Rattle.clap.specs.Walk.{rows_of, rule_of};
 ghost use Rattle.clap.specs.Simple.{app_of};
 ghost use Rattle.clap.specs.Faults.{fault_of, is_simple_and_free};
-ghost use Rattle.sr_words.specs.Forms.{flag_rule, option_rule, needed_rule, word_rule, rest_rule, form, replay_form, client_form, serve_form, explain_form, generate_form};
+ghost use Rattle.sr_words.specs.Forms.{flag_rule, option_rule, needed_rule, word_rule, rest_rule, form, replay_form, client_form, warm_form, serve_form, explain_form, generate_form};
 
 use clap::{Arg, ArgAction, Command};
 use sr_cell::list::NoMemory;
@@ -96,6 +96,23 @@ pub fn client_form<'a>(alloc: Global, name: &'a str) -> Result<Command<'a>, NoMe
         word(alloc, "file"),
     ]?;
     command(alloc, name, args)
+}
+
+/// The form of `warm`.
+pub fn warm_form<'a>(alloc: Global) -> Result<Command<'a>, NoMemory>
+    ensures { IfOk result (λ c. app_of c ≡ warm_form) }
+{
+    let args = vec![in alloc;
+        option(alloc, "rows"),
+        option(alloc, "regions"),
+        option(alloc, "policy"),
+        needed(alloc, "id"),
+        needed(alloc, "schema"),
+        word(alloc, "address"),
+        word(alloc, "file"),
+        word(alloc, "image"),
+    ]?;
+    command(alloc, "warm", args)
 }
 
 /// The form of `serve`.

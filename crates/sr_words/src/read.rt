@@ -5,17 +5,18 @@ ghost use Rattle.clap.specs.Walk.{rows_of};
 ghost use Rattle.clap.specs.Simple.{app_of};
 ghost use Rattle.clap.specs.Faults.{is_simple_and_free};
 ghost use Rattle.sr_words.specs.Forms.{rows_in};
-ghost use Rattle.sr_words.specs.Words.{replay_words, client_words, kind_of, kind_words, serve_words, explain_words, generate_words, command_by, command_of};
+ghost use Rattle.sr_words.specs.Words.{replay_words, client_words, kind_of, kind_words, save_words, warm_words, serve_words, explain_words, generate_words, command_by, command_of};
 ghost use Rattle.sr_words.specs.Ranges.{IsInRange};
 ghost use Rattle.sr_words.specs.Reads.{Reads};
 ghost use Rattle.sr_words.specs.declared.fault.WordsFault.TheVariants.{NotInForm};
 
 use crate::command::{
     ClientKind, ClientWords, Command, ExplainWords, GenerateWords, ReplayWords, ServeWords,
+    WarmWords,
 };
 use crate::fault::WordsFault;
-use crate::form::{client_form, explain_form, generate_form, replay_form, serve_form};
-use crate::said::{client_of, explain_of, generate_of, replay_of, serve_of};
+use crate::form::{client_form, explain_form, generate_form, replay_form, serve_form, warm_form};
+use crate::said::{client_of, explain_of, generate_of, replay_of, serve_of, warm_of};
 use clap::ArgMatches;
 use clap::error::ErrorKind;
 use sr_cell::list::NoMemory;
@@ -77,6 +78,14 @@ fn command_by(alloc: Global, name: &str, words: &[&str]) -> Result<Command, Word
             Ok(words) => Ok(Command::Generate(words)),
             Err(fault) => Err(fault),
         },
+        "save" => match client_in(alloc, "save", ClientKind::Client, words) {
+            Ok(words) => Ok(Command::Save(words)),
+            Err(fault) => Err(fault),
+        },
+        "warm" => match warm_in(alloc, words) {
+            Ok(words) => Ok(Command::Warm(words)),
+            Err(fault) => Err(fault),
+        },
         name => match kind_in(alloc, name, words) {
             Ok(words) => Ok(Command::Client(words)),
             Err(fault) => Err(fault),
@@ -103,6 +112,20 @@ fn kind_of(name: &str) -> Option<ClientKind>
         "report" => Some(ClientKind::Report),
         "semi" => Some(ClientKind::Semi),
         _ => None,
+    }
+}
+
+/// What the words say to `warm`.
+#[tactic(auto, using(crate::proofs::Simple::simple_warm))]
+fn warm_in(alloc: Global, words: &[&str]) -> Result<WarmWords, WordsFault>
+    ensures { Reads (warm_words (map (λ w. w.now) words.now)) result }
+{
+    match warm_form(alloc) {
+        Err(_) => Err(WordsFault::NoMemory),
+        Ok(form) => match found_in(form, words) {
+            Ok(found) => warm_of(alloc, &found),
+            Err(fault) => Err(fault),
+        },
     }
 }
 

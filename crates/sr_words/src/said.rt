@@ -2,11 +2,12 @@
 ghost use Rattle.std.specs.Prelude.{◌≡◌, ◌≤◌, option_map, IfSome};
 ghost use Rattle.clap.specs.Words.{found_of};
 ghost use Rattle.clap.specs.Walk.{rows_of, first_of};
-ghost use Rattle.sr_words.specs.Words.{limits_of, log_of, setup_of, loads_of, replay_of, client_of, serve_of, explain_of, generate_of};
+ghost use Rattle.sr_words.specs.Words.{limits_of, log_of, setup_of, loads_of, replay_of, client_of, warm_of, serve_of, explain_of, generate_of};
 ghost use Rattle.sr_words.specs.Reads.{Reads};
 
 use crate::command::{
-    ClientKind, ClientWords, ExplainWords, GenerateWords, LoadWords, ReplayWords, ServeWords, Setup,
+    ClientKind, ClientWords, ExplainWords, GenerateWords, LoadWords, ReplayWords, ServeWords,
+    Setup, WarmWords,
 };
 use crate::fault::WordsFault;
 use crate::value::{
@@ -94,6 +95,15 @@ pub fn client_of(
         address,
         script,
     })
+}
+
+/// What the words say to `warm`.
+pub fn warm_of(alloc: Global, found: &ArgMatches<'_>) -> Result<WarmWords, WordsFault>
+    ensures { Reads (warm_of (rows_of (found_of found.now))) result }
+{
+    let client = client_of(alloc, ClientKind::Client, found)?;
+    let image = text_of(alloc, value(found, "image"))?;
+    Ok(WarmWords { client, image })
 }
 
 /// What the words say to `serve`.

@@ -1,14 +1,16 @@
 use Rattle.std.proofs.Common.{◌≡◌, Option, Some, Err, arith, inl, inr, sym, subst, ap, ◌∙◌}
 use Rattle.sr_words.specs.declared.command.Command.{Command}
-use Rattle.sr_words.specs.declared.command.Command.TheVariants.{Replay, Client, Serve, Explain, Generate}
+use Rattle.sr_words.specs.declared.command.Command.TheVariants.{Replay, Client, Save, Warm, Serve, Explain, Generate}
 use Rattle.sr_words.specs.declared.command.ClientWords.{ClientWords}
 use Rattle.sr_words.specs.declared.command.ExplainWords.{ExplainWords}
 use Rattle.sr_words.specs.declared.command.GenerateWords.{GenerateWords}
 use Rattle.sr_words.specs.declared.command.ReplayWords.{ReplayWords}
 use Rattle.sr_words.specs.declared.command.ServeWords.{ServeWords}
+use Rattle.sr_words.specs.declared.command.WarmWords.{WarmWords}
 use Rattle.sr_cli.specs.Client.{Dials}
 use Rattle.sr_cli.specs.Explain.{Explains}
 use Rattle.sr_cli.specs.Generate.{Generates}
+use Rattle.sr_cli.specs.Image.{SavesOver, WarmsOver}
 use Rattle.sr_cli.specs.Replay.{Replays}
 use Rattle.sr_cli.specs.Serve.{Serves}
 use Rattle.sr_cli.proofs.CommandLemmas.{fits-asked, fits-untaken}
@@ -31,6 +33,36 @@ one_generate said command a w is here says = let e : Some command ≡ Some (Gene
 
 one_client : (said : Option Command) (command : Command) (a w : ClientWords) → said ≡ Some command → command ≡ Client a → said ≡ Some (Client w) → a ≡ w
 one_client said command a w is here says = let e : Some command ≡ Some (Client w) = sym is ∙ says in cc
+
+one_save : (said : Option Command) (command : Command) (a w : ClientWords) → said ≡ Some command → command ≡ Save a → said ≡ Some (Save w) → a ≡ w
+one_save said command a w is here says = let e : Some command ≡ Some (Save w) = sym is ∙ says in cc
+
+one_warm : (said : Option Command) (command : Command) (a w : WarmWords) → said ≡ Some command → command ≡ Warm a → said ≡ Some (Warm w) → a ≡ w
+one_warm said command a w is here says = let e : Some command ≡ Some (Warm w) = sym is ∙ says in cc
+
+pub returns-in-Ok-Save-clause-saves : goal.returns-in-Ok-Save-clause-saves
+returns-in-Ok-Save-clause-saves g c = λ w says.
+    let same = one_save _ _ c.in-Ok-Save.words w c.in-Ok-Save.ensures.said c.in-Ok-Save.field-0-is says in
+    subst (λ (v : ClientWords). SavesOver _ g.H.Outside.held g.H.Outside.reading g.H.Outside.writing g.H.Outside.linking g.H.Outside.complaints g.H.Outside.IsSteady c.args.host.now c.run_save.new.host v c.run_save.result) same
+    c.run_save.ensures.saves
+
+pub returns-in-Ok-Save-clause-words : goal.returns-in-Ok-Save-clause-words
+returns-in-Ok-Save-clause-words g c =
+    let only = c.run_save.ensures.saves.only in
+    fits-asked _ g.H.Outside.reading g.H.Outside.writing g.H.Outside.linking c.args.host.now c.run_save.new.host c.args.words.now c.run_save.result _ c.in-Ok-Save.ensures.said (λ is. omega (arith, only, is))
+    (λ is. inr (inr (inl (c.in-Ok-Save.words, c.in-Ok-Save.ensures.said ∙ ap Some c.in-Ok-Save.field-0-is))))
+
+pub returns-in-Ok-Warm-clause-warms : goal.returns-in-Ok-Warm-clause-warms
+returns-in-Ok-Warm-clause-warms g c = λ w says.
+    let same = one_warm _ _ c.in-Ok-Warm.words w c.in-Ok-Warm.ensures.said c.in-Ok-Warm.field-0-is says in
+    subst (λ (v : WarmWords). WarmsOver _ g.H.Outside.held g.H.Outside.reading g.H.Outside.writing g.H.Outside.linking g.H.Outside.complaints g.H.Outside.IsSteady c.args.host.now c.run_warm.new.host v c.run_warm.result) same
+    c.run_warm.ensures.warms
+
+pub returns-in-Ok-Warm-clause-words : goal.returns-in-Ok-Warm-clause-words
+returns-in-Ok-Warm-clause-words g c =
+    let only = c.run_warm.ensures.warms.only in
+    fits-asked _ g.H.Outside.reading g.H.Outside.writing g.H.Outside.linking c.args.host.now c.run_warm.new.host c.args.words.now c.run_warm.result _ c.in-Ok-Warm.ensures.said (λ is. omega (arith, only, is))
+    (λ is. inr (inr (inr (c.in-Ok-Warm.words, c.in-Ok-Warm.ensures.said ∙ ap Some c.in-Ok-Warm.field-0-is))))
 
 pub returns-in-Ok-Client-clause-dials : goal.returns-in-Ok-Client-clause-dials
 returns-in-Ok-Client-clause-dials g c = λ w says.
@@ -61,7 +93,7 @@ returns-in-Ok-Generate-clause-words g c =
 pub returns-in-Ok-Client-clause-words : goal.returns-in-Ok-Client-clause-words
 returns-in-Ok-Client-clause-words g c =
     let only = c.run_client.ensures.dials.only in
-    fits-asked _ g.H.Outside.reading g.H.Outside.writing g.H.Outside.linking c.args.host.now c.run_client.new.host c.args.words.now c.run_client.result _ c.in-Ok-Client.ensures.said (λ is. omega (arith, only, is)) (λ is. inr (c.in-Ok-Client.words, c.in-Ok-Client.ensures.said ∙ ap Some c.in-Ok-Client.field-0-is))
+    fits-asked _ g.H.Outside.reading g.H.Outside.writing g.H.Outside.linking c.args.host.now c.run_client.new.host c.args.words.now c.run_client.result _ c.in-Ok-Client.ensures.said (λ is. omega (arith, only, is)) (λ is. inr (inl (c.in-Ok-Client.words, c.in-Ok-Client.ensures.said ∙ ap Some c.in-Ok-Client.field-0-is)))
 
 pub returns-in-Err-NotInForm-clause-words : goal.returns-in-Err-NotInForm-clause-words
 returns-in-Err-NotInForm-clause-words g c =

@@ -14,7 +14,7 @@ use Rattle.sr_dial.proofs.OffLemmas.{off-free, cut-off}
 use Rattle.sr_dial.proofs.steps.end.Goals as goal
 
 pub returns-clause-cut : goal.returns-clause-cut
-returns-clause-cut g c k s ahead further line failed feed same schema free is on =
+returns-clause-cut g c k first s steady ahead further line failed feed same schema free is on =
     let old = c.args.client.now in
     let new = c.act.new.self in
     let told = c.in_ok-told.told in
@@ -31,11 +31,11 @@ returns-clause-cut g c k s ahead further line failed feed same schema free is on
     (flat_map (line_text c.args.schema.now c.args.number) told.lines)) spoke carries)))) c.carry.ensures.carried
 
 pub returns-in_err-told-clause-broken_off : goal.returns-in_err-told-clause-broken_off
-returns-in_err-told-clause-broken_off g c k s ahead further line failed feed same schema free is on =
+returns-in_err-told-clause-broken_off g c k first s steady ahead further line failed feed same schema free is on =
     so-in-err c.from_residual.result (off-free _ g.C.Asks.stands g.C.Asks.lent g.C.Peer.is_of g.C.Hearer.has_told k s ahead line failed _ _ feed _ free)
 
 pub returns-clause-broken_off : goal.returns-clause-broken_off
-returns-clause-broken_off g c k s ahead further line failed feed same schema free is on =
+returns-clause-broken_off g c k first s steady ahead further line failed feed same schema free is on =
     let old = c.args.client.now in
     let new = c.act.new.self in
     let told = c.in_ok-told.told in

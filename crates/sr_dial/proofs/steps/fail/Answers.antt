@@ -12,7 +12,7 @@ use Rattle.sr_dial.proofs.OffLemmas.{all-is-some, fails-off, off-broken}
 use Rattle.sr_dial.proofs.steps.fail.Goals as goal
 
 pub returns-clause-failed : goal.returns-clause-failed
-returns-clause-failed g c k s ahead feed same schema broken =
+returns-clause-failed g c k first s steady ahead feed same schema broken =
     let old = c.args.client.now in
     let new = c.cut.new.self in
     let lines = c.in_ok-lines.lines in
@@ -28,11 +28,11 @@ returns-clause-failed g c k s ahead feed same schema broken =
     (subst (λ b. SaysAs b said (g.H.Outside.writing c.hang_up.new.self) (g.H.Outside.writing c.say.new.sink) (flat_map (line_text c.args.schema.now c.args.number) c.as_slice.result.now)) spoke says))))) c.say.ensures.said
 
 pub returns-in_err-lines-clause-broken_off : goal.returns-in_err-lines-clause-broken_off
-returns-in_err-lines-clause-broken_off g c k s ahead feed same schema broken =
+returns-in_err-lines-clause-broken_off g c k first s steady ahead feed same schema broken =
     so-in-err c.from_residual.result (off-broken _ g.C.Asks.stands g.C.Asks.lent g.C.Peer.is_of g.C.Hearer.has_told k s ahead c.args.number _ feed _ _ (all-is-some s _) _ broken)
 
 pub returns-clause-broken_off : goal.returns-clause-broken_off
-returns-clause-broken_off g c k s ahead feed same schema broken =
+returns-clause-broken_off g c k first s steady ahead feed same schema broken =
     let old = c.args.client.now in
     let new = c.cut.new.self in
     let lines = c.in_ok-lines.lines in

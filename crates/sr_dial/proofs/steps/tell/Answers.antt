@@ -14,7 +14,7 @@ use Rattle.sr_dial.proofs.OffLemmas.{explains-off, off-free}
 use Rattle.sr_dial.proofs.steps.tell.Goals as goal
 
 pub returns-clause-told : goal.returns-clause-told
-returns-clause-told g c k s ahead further line failed feed text same schema free means on =
+returns-clause-told g c k first s steady ahead further line failed feed text same schema free means on =
     let lines = c.in_ok-lines.lines in
     let past = left_by s.past (free.at.course.earlier ++ free.at.course.call ∷ []) in
     let tells = subst (λ x. Tells g.C.Peer.is_of x c.args.client.now past text lines) same
@@ -28,11 +28,11 @@ returns-clause-told g c k s ahead further line failed feed text same schema free
     (subst (λ b. SaysAs b c.in_ok-said.said (g.K.Outside.writing c.args.sink.now) (g.K.Outside.writing c.say.new.sink) (flat_map (line_text c.args.schema.now c.args.number) c.as_slice.result.now)) spoke c.in_ok-said.ensures.said)))))
 
 pub returns-in_err-lines-clause-broken_off : goal.returns-in_err-lines-clause-broken_off
-returns-in_err-lines-clause-broken_off g c k s ahead further line failed feed text same schema free means on =
+returns-in_err-lines-clause-broken_off g c k first s steady ahead further line failed feed text same schema free means on =
     so-in-err c.from_residual.result (off-free _ g.C.Asks.stands g.C.Asks.lent g.C.Peer.is_of g.C.Hearer.has_told k s ahead line failed _ _ feed _ free)
 
 pub returns-in_err-said-clause-broken_off : goal.returns-in_err-said-clause-broken_off
-returns-in_err-said-clause-broken_off g c k s ahead further line failed feed text same schema free means on =
+returns-in_err-said-clause-broken_off g c k first s steady ahead further line failed feed text same schema free means on =
     let lines = c.in_ok-lines.lines in
     let past = left_by s.past (free.at.course.earlier ++ free.at.course.call ∷ []) in
     let tells = subst (λ x. Tells g.C.Peer.is_of x c.args.client.now past text lines) same

@@ -17,7 +17,7 @@ pub carry-requires : goal.carry-requires
 carry-requires g c = record { sendable = subst MaySend c.in-Taken.is c.in_ok-why.ensures.sendable }
 
 pub returns-in-Bad-clause-handled : goal.returns-in-Bad-clause-handled
-returns-in-Bad-clause-handled g c k s ahead count failed after most same schema h some is =
+returns-in-Bad-clause-handled g c k first s steady ahead count failed after most same schema h some is =
     let old = c.args.client.now in
     let past = left_by s.past (h.course.earlier ++ h.course.call ∷ []) in
     let took = subst (λ came. TakesAs came g.C.Asks.stands g.C.Asks.lent g.C.Peer.is_of g.C.Hearer.has_told (g.C.Asks.setting old) old c.take.new.self past c.args.message) c.in-Bad.is (c.in_ok-why.ensures.taken past h.course.steps.stands) in
@@ -25,7 +25,7 @@ returns-in-Bad-clause-handled g c k s ahead count failed after most same schema 
     old c.take.new.self c.args.message h c.in-Bad.why some is (subst (λ (x : Setting). misfit x.schema past.out past.laid past.version c.args.message ≡ Some c.in-Bad.why) same took)
 
 pub returns-in_ok-handed-in-Taken-clause-handled : goal.returns-in_ok-handed-in-Taken-clause-handled
-returns-in_ok-handed-in-Taken-clause-handled g c k s ahead count failed after most same schema h some is =
+returns-in_ok-handed-in-Taken-clause-handled g c k first s steady ahead count failed after most same schema h some is =
     let old = c.args.client.now in
     let new = c.take.new.self in
     let told = c.in-Taken.told in
@@ -37,18 +37,18 @@ returns-in_ok-handed-in-Taken-clause-handled g c k s ahead count failed after mo
     let spoke : c.says.result ≡ k.says = c.says.ensures ∙ ap (λ (x : Setting). x.says) (c.take.ensures.setting ∙ same) in
     subst (λ x. Handles _ g.C.Asks.stands g.C.Asks.lent g.C.Peer.is_of g.C.Hearer.has_told k x s ahead c.args.number count failed c.args.message (g.H.Outside.linking c.carry.new.host) (g.H.Outside.writing c.carry.new.host) after c.take.new.self) (sym c.handled_by.ensures)
     (handles _ g.C.Asks.stands g.C.Asks.lent g.C.Peer.is_of g.C.Hearer.has_told k s ahead c.args.number count failed (g.H.Outside.linking c.args.host.now) (g.H.Outside.linking c.carry.new.host) (g.H.Outside.writing c.args.host.now) (g.H.Outside.writing c.carry.new.host) after
-    old c.take.new.self c.args.message h most told.lines told.sent handed c.is_empty-again.result c.is_empty-again.ensures some is fits made
+    old c.take.new.self c.args.message h most told.lines told.sent handed (λ z up. c.in_ok-handed-in-Taken.ensures.steady_links (steady z) up) c.is_empty-again.result c.is_empty-again.ensures some is fits made
     (subst (λ x. Carries k.says handed (g.H.Outside.linking c.args.host.now) (g.H.Outside.linking c.carry.new.host) (g.H.Outside.writing c.args.host.now) (g.H.Outside.writing c.carry.new.host) (spelled told.sent)
     (flat_map (line_text x c.args.number) told.lines)) schema
     (subst (λ b. Carries b handed (g.H.Outside.linking c.args.host.now) (g.H.Outside.linking c.carry.new.host) (g.H.Outside.writing c.args.host.now) (g.H.Outside.writing c.carry.new.host) (spelled told.sent)
     (flat_map (line_text c.args.schema.now c.args.number) told.lines)) spoke c.in_ok-handed-in-Taken.ensures.carried)))
 
 pub returns-in_err-why-clause-broken_off : goal.returns-in_err-why-clause-broken_off
-returns-in_err-why-clause-broken_off g c k s ahead count failed after most same schema h some is =
+returns-in_err-why-clause-broken_off g c k first s steady ahead count failed after most same schema h some is =
     so-in-err c.from_residual.result (off-at _ g.C.Asks.stands g.C.Asks.lent g.C.Peer.is_of g.C.Hearer.has_told k s ahead c.args.number _ _ _ _ (all-is-some s _) count failed _ h)
 
 pub returns-in_err-handed-in-Taken-clause-broken_off : goal.returns-in_err-handed-in-Taken-clause-broken_off
-returns-in_err-handed-in-Taken-clause-broken_off g c k s ahead count failed after most same schema h some is =
+returns-in_err-handed-in-Taken-clause-broken_off g c k first s steady ahead count failed after most same schema h some is =
     let old = c.args.client.now in
     let new = c.take.new.self in
     let told = c.in-Taken.told in

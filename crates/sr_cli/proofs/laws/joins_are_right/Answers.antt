@@ -1,0 +1,5 @@
+use Rattle.sr_cli.proofs.LawLemmas.{joins-are-right}
+use Rattle.sr_cli.proofs.laws.joins_are_right.Goals as goal
+
+pub returns : goal.returns
+returns c = joins-are-right

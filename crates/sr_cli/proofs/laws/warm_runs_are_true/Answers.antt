@@ -1,0 +1,5 @@
+use Rattle.sr_cli.proofs.LawLemmas.{warm-runs-are-true}
+use Rattle.sr_cli.proofs.laws.warm_runs_are_true.Goals as goal
+
+pub returns : goal.returns
+returns c = warm-runs-are-true

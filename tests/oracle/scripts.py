@@ -45,9 +45,9 @@ CREATES = [
 ]
 
 # the same, and one with nullable columns
-NULL_TABLES = TABLES + [Table('guess', [numbers('id', 0, 7), numbers('room', 0, 5, True), Column('word', text_values(), None, True)], 0)]
+NULL_TABLES = TABLES + [Table('guess', [numbers('id', 0, 7), numbers('seat', 0, 5, True), Column('word', text_values(), None, True)], 0)]
 GUESS = len(TABLES)
-NULL_CREATES = CREATES + ['CREATE TABLE guess (id INT PRIMARY KEY CHECK (id BETWEEN 0 AND 7), room INT NULL CHECK (room BETWEEN 0 AND 5), word TEXT NULL)']
+NULL_CREATES = CREATES + ['CREATE TABLE guess (id INT PRIMARY KEY CHECK (id BETWEEN 0 AND 7), seat INT NULL CHECK (seat BETWEEN 0 AND 5), word TEXT NULL)']
 
 # a script: its options, its events, and whether it is over the tables with nullable columns too
 Script = collections.namedtuple('Script', 'options events has_nulls', defaults=[False])

@@ -145,59 +145,67 @@ row-either (Max column greatest) a b = by (is_null (cell_at a column)) refl (is_
 
 all-grouping : (place : ℕ) (rows : List Row) → fold with_row (Grouping place) rows ≡ Grouping place
 all-grouping place [] = refl
-all-grouping place (row ∷ rows) = by (is_null (cell_at row 0)) refl
+all-grouping place (row ∷ rows) = by (is_null (cell_at row 0)) refl (all-grouping place rows)
   where
-    by : (p : Bool) → is_null (cell_at row 0) ≡ p → fold with_row (Grouping place) (row ∷ rows) ≡ Grouping place
-    by true e = rw e (all-grouping place rows)
-    by false e = rw e (all-grouping place rows)
+    by : (p : Bool) → is_null (cell_at row 0) ≡ p → fold with_row (Grouping place) rows ≡ Grouping place → fold with_row (Grouping place) (row ∷ rows) ≡ Grouping place
+    by true e ih = rw e ih
+    by false e ih = rw e ih
 
 all-rows : (n : ℕ) (rows : List Row) → fold with_row (Rows n) rows ≡ Rows (n + length rows)
 all-rows n [] = ap Rows (omega arith)
-all-rows n (row ∷ rows) = by (is_null (cell_at row 0)) refl
+all-rows n (row ∷ rows) = by (is_null (cell_at row 0)) refl (all-rows (n + 1) rows)
   where
-    by : (p : Bool) → is_null (cell_at row 0) ≡ p → fold with_row (Rows n) (row ∷ rows) ≡ Rows (n + length (row ∷ rows))
-    by true e = rw e (all-rows (n + 1) rows ∙ ap Rows (omega arith))
-    by false e = rw e (all-rows (n + 1) rows ∙ ap Rows (omega arith))
+    by : (p : Bool) → is_null (cell_at row 0) ≡ p → fold with_row (Rows (n + 1)) rows ≡ Rows (n + 1 + length rows)
+        → fold with_row (Rows n) (row ∷ rows) ≡ Rows (n + length (row ∷ rows))
+    by true e ih = rw e (ih ∙ ap Rows (omega arith))
+    by false e ih = rw e (ih ∙ ap Rows (omega arith))
 
 all-count : (c n : ℕ) (rows : List Row) → fold with_row (Count c n) rows ≡ Count c (n + length (column_values c rows))
 all-count c n [] = ap (Count c) (omega arith)
-all-count c n (row ∷ rows) = by (is_null (cell_at row c)) refl
+all-count c n (row ∷ rows) = by (is_null (cell_at row c)) refl (all-count c n rows) (all-count c (n + 1) rows)
   where
-    by : (p : Bool) → is_null (cell_at row c) ≡ p → fold with_row (Count c n) (row ∷ rows) ≡ Count c (n + length (column_values c (row ∷ rows)))
-    by true e = rw e (all-count c n rows)
-    by false e = rw e (all-count c (n + 1) rows ∙ ap (Count c) (omega arith))
+    by : (p : Bool) → is_null (cell_at row c) ≡ p → fold with_row (Count c n) rows ≡ Count c (n + length (column_values c rows))
+        → fold with_row (Count c (n + 1)) rows ≡ Count c (n + 1 + length (column_values c rows))
+        → fold with_row (Count c n) (row ∷ rows) ≡ Count c (n + length (column_values c (row ∷ rows)))
+    by true e same more = rw e same
+    by false e same more = rw e (more ∙ ap (Count c) (omega arith))
 
 abbrev sum_from : ℤ → List Cell → ℤ
 sum_from z vs = fold (λ sum v. sum +ℤ number_in v) z vs
 
-all-sum : (c : ℕ) (z : ℤ) (n : ℕ) (rows : List Row)
-    → fold with_row (Sum c (record { sum = z; count = n })) rows ≡ Sum c (record { sum = sum_from z (column_values c rows); count = n + length (column_values c rows) })
+-- the total of a column's values
+abbrev summed : ℕ → ℤ → ℕ → List Row → Tally
+summed c z n rows = Sum c (record { sum = sum_from z (column_values c rows); count = n + length (column_values c rows) })
+
+all-sum : (c : ℕ) (z : ℤ) (n : ℕ) (rows : List Row) → fold with_row (Sum c (record { sum = z; count = n })) rows ≡ summed c z n rows
 all-sum c z n [] = ap (λ n. Sum c (record { sum = z; count = n })) (omega arith)
-all-sum c z n (row ∷ rows) = by (is_null (cell_at row c)) refl
+all-sum c z n (row ∷ rows) = by (is_null (cell_at row c)) refl (all-sum c z n rows) (all-sum c (z +ℤ number_in (cell_at row c)) (n + 1) rows)
   where
-    by : (p : Bool) → is_null (cell_at row c) ≡ p
-        → fold with_row (Sum c (record { sum = z; count = n })) (row ∷ rows)
-        ≡ Sum c (record { sum = sum_from z (column_values c (row ∷ rows)); count = n + length (column_values c (row ∷ rows)) })
-    by true e = rw e (all-sum c z n rows)
-    by false e = rw e
-        (all-sum c (z +ℤ number_in (cell_at row c)) (n + 1) rows
-        ∙ ap (λ n. Sum c (record { sum = sum_from (z +ℤ number_in (cell_at row c)) (column_values c rows); count = n })) (omega arith))
+    by : (p : Bool) → is_null (cell_at row c) ≡ p → fold with_row (Sum c (record { sum = z; count = n })) rows ≡ summed c z n rows
+        → fold with_row (Sum c (record { sum = z +ℤ number_in (cell_at row c); count = n + 1 })) rows ≡ summed c (z +ℤ number_in (cell_at row c)) (n + 1) rows
+        → fold with_row (Sum c (record { sum = z; count = n })) (row ∷ rows) ≡ summed c z n (row ∷ rows)
+    by true e same more = rw e same
+    by false e same more = rw e (more ∙ ap (λ n. Sum c (record { sum = sum_from (z +ℤ number_in (cell_at row c)) (column_values c rows); count = n })) (omega arith))
 
 all-min : (c : ℕ) (o : Option Cell) (rows : List Row) → fold with_row (Min c o) rows ≡ Min c (fold lesser o (column_values c rows))
 all-min c o [] = refl
-all-min c o (row ∷ rows) = by (is_null (cell_at row c)) refl
+all-min c o (row ∷ rows) = by (is_null (cell_at row c)) refl (all-min c o rows) (all-min c (lesser o (cell_at row c)) rows)
   where
-    by : (p : Bool) → is_null (cell_at row c) ≡ p → fold with_row (Min c o) (row ∷ rows) ≡ Min c (fold lesser o (column_values c (row ∷ rows)))
-    by true e = rw e (all-min c o rows)
-    by false e = rw e (all-min c (lesser o (cell_at row c)) rows)
+    by : (p : Bool) → is_null (cell_at row c) ≡ p → fold with_row (Min c o) rows ≡ Min c (fold lesser o (column_values c rows))
+        → fold with_row (Min c (lesser o (cell_at row c))) rows ≡ Min c (fold lesser (lesser o (cell_at row c)) (column_values c rows))
+        → fold with_row (Min c o) (row ∷ rows) ≡ Min c (fold lesser o (column_values c (row ∷ rows)))
+    by true e same more = rw e same
+    by false e same more = rw e more
 
 all-max : (c : ℕ) (o : Option Cell) (rows : List Row) → fold with_row (Max c o) rows ≡ Max c (fold greater o (column_values c rows))
 all-max c o [] = refl
-all-max c o (row ∷ rows) = by (is_null (cell_at row c)) refl
+all-max c o (row ∷ rows) = by (is_null (cell_at row c)) refl (all-max c o rows) (all-max c (greater o (cell_at row c)) rows)
   where
-    by : (p : Bool) → is_null (cell_at row c) ≡ p → fold with_row (Max c o) (row ∷ rows) ≡ Max c (fold greater o (column_values c (row ∷ rows)))
-    by true e = rw e (all-max c o rows)
-    by false e = rw e (all-max c (greater o (cell_at row c)) rows)
+    by : (p : Bool) → is_null (cell_at row c) ≡ p → fold with_row (Max c o) rows ≡ Max c (fold greater o (column_values c rows))
+        → fold with_row (Max c (greater o (cell_at row c))) rows ≡ Max c (fold greater (greater o (cell_at row c)) (column_values c rows))
+        → fold with_row (Max c o) (row ∷ rows) ≡ Max c (fold greater o (column_values c (row ∷ rows)))
+    by true e same more = rw e same
+    by false e same more = rw e more
 
 sum-told : (vs : List Cell) (n : ℕ) → n ≡ length vs → told_of_total (record { sum = total vs; count = n }) ≡ if_any vs (Num (nearest (total vs)))
 sum-told [] n e = rw e refl

@@ -117,11 +117,16 @@ beside-fits column t s f g =
 
 beside-ends : (column : Column) (p q : List Cell) (t s : Span) → span_fits column s ≡ true → EndsAt column p s → EndsAt column q t → AllByRecursion (EndsAt column (p ++ q)) (beside column t s)
 beside-ends column p q t s g h k = ends-append column (p ++ q) (option_to_list (under column.lo s t)) (option_to_list (over column.hi s t))
-    (some-ends column (p ++ q) (under column.lo s t) (λ v e. let c = under-cut column.kind column.lo column.hi column.nullable s t v g e in one v c))
-    (some-ends column (p ++ q) (over column.hi s t) (λ v e. let c = over-cut column.kind column.lo column.hi column.nullable s t v g e in one v c))
+    (some-ends column (p ++ q) (under column.lo s t) (λ v e. one v (under-cut column.kind column.lo column.hi column.nullable s t v g e)))
+    (some-ends column (p ++ q) (over column.hi s t) (λ v e. one v (over-cut column.kind column.lo column.hi column.nullable s t v g e)))
   where
+    go : (v : Cell) (a b : Bool) → (a ≡ true → is_among p v ≡ true) → (b ≡ true → is_among q v ≡ true) → (a || b) ≡ true → is_among (p ++ q) v ≡ true
+    go v true b x y c = in_left p q v (x refl)
+    go v false true x y c = in_right p q v (y refl)
+    go v false false x y c = absurd (cc)
+
     one : (v : Cell) → (has_cut column.kind column.lo column.hi column.nullable s v || has_cut column.kind column.lo column.hi column.nullable t v) ≡ true → is_among (p ++ q) v ≡ true
-    one v c = let x = h v in let y = k v in let l = in_left p q v in let r = in_right p q v in grind (arith, c, x, y, l, r)
+    one v c = go v (has_cut column.kind column.lo column.hi column.nullable s v) (has_cut column.kind column.lo column.hi column.nullable t v) (h v) (k v) c
 
 -- ---- a span that reaches to both sides of the part has its first value
 

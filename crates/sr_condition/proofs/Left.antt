@@ -1,6 +1,6 @@
 -- What is left by the spans between the values of a list: no more spans than there are values.
 use Rattle.std.proofs.Common.{◌≡◌, ℕ, zero, suc, ◌+◌, ◌<◌, ◌≤◌, true, false, List, [], ◌∷◌, ◌++◌, length, take, slice_index_or, refl, sym, subst, arith, ◌∙◌, ap}
-use Rattle.std.specs.Prelude.{Bool, not, ◌&&◌, ◌||◌, Some, flat_map, if◌then◌else◌}
+use Rattle.std.specs.Prelude.{ℤ, pos, negsuc, int_le, int_lt, Bool, not, ◌&&◌, ◌||◌, Some, flat_map, if◌then◌else◌}
 use Rattle.std.specs.List.{list_all, list_any, AllByRecursion}
 use Rattle.std.proofs.lemmas.Int.{ints}
 use Rattle.std.proofs.lemmas.List.{take_more}
@@ -128,12 +128,31 @@ ends-in column places (s ∷ spans) (suc i) d l f = ends-in column places spans 
 pub fits_at : (column : Column) (spans : List Span) (i : ℕ) (s : Span) → i < length spans → s ≡ slice_index_or spans i s → list_all (span_fits column) spans ≡ true → span_fits column s ≡ true
 fits_at column spans i s l e f = subst (λ x. span_fits column x ≡ true) (sym e) (fits-in column spans i s l f)
 
+-- the bounds of a domain lie in the default one
+domain-inside : (x y z : Bool) → not (x && (y && z)) ≡ false → (y ≡ true) × (z ≡ true)
+domain-inside true true true h = (refl, refl)
+domain-inside true true false h = absurd (cc)
+domain-inside true false z h = absurd (cc)
+domain-inside false y z h = absurd (cc)
+
+span-inside : (x y z w : Bool) → (x && y && z && w) ≡ true → (x ≡ true) × (z ≡ true)
+span-inside true true true w h = (refl, refl)
+span-inside true true false w h = absurd (cc)
+span-inside true false z w h = absurd (cc)
+span-inside false y z w h = absurd (cc)
+
+numbers-inner : (low high a b : ℤ) → int_le (negsuc 1099511627775) low ≡ true → int_le high (pos 1099511627775) ≡ true → int_le low a ≡ true → int_le b high ≡ true → IsInner (Nums a b)
+numbers-inner low high a b d e f g = (grind (arith, ints), grind (arith, ints))
+
 inner : (k : Kind) (column : Column) (s : Span) → is_bad_by k column ≡ false → fits_kind k column.lo column.hi column.nullable s ≡ true → IsInner s
 inner k column Full good f = tt
 inner k column Null good f = tt
 inner k column (Strs a b) good f = tt
-inner Numbers column (Nums a b) good f = (grind (arith, ints), grind (arith, ints))
-inner Texts column (Nums a b) good f = absurd (grind arith)
+inner Numbers column (Nums a b) good f =
+    let d = domain-inside (int_le column.lo column.hi) (int_le (negsuc 1099511627775) column.lo) (int_le column.hi (pos 1099511627775)) good in
+    let e = span-inside (int_le column.lo a) (int_le a b) (int_le b column.hi) (column.nullable || (int_lt column.lo a || int_lt b column.hi)) f in
+    numbers-inner column.lo column.hi a b d.0 d.1 e.0 e.1
+inner Texts column (Nums a b) good f = absurd (cc)
 
 -- the next span that is taken out lies far inside an i64
 pub next-inner : (column : Column) (taken items : List Span) (i : ℕ) (s : Span) → is_bad_domain column ≡ false → items ≡ taken → i < length items → s ≡ slice_index_or items i s

@@ -227,7 +227,7 @@ compared-spans column plain op v spans o one is alone are =
     (range_width (is_one_range (said plain op))) (test_width plain (compared op v)) (places_of (ranged (said plain op) v)) (places_of (compared op v)) spans
     (subst (λ (x : Op). AreSpans column (says_test (is_one_range x) (ranged x v)) (range_width (is_one_range x)) (places_of (ranged x v)) spans) is
     (subst (λ (b : Bool). AreSpans column (says_test b (ranged o v)) (range_width b) (places_of (ranged o v)) spans) alone are))
-    (λ u i. same-says plain op v u) (let w = same-width plain op v in omega arith) (λ u h. let e = same-places plain op v in rw (sym e) h)
+    (λ u i. same-says plain op v u) (let w = same-width plain op v in omega arith) (λ u h. subst (λ (places : List Cell). is_among places u ≡ true) (same-places plain op v) h)
 
 -- ---- lists
 

@@ -3,6 +3,7 @@ use Rattle.std.proofs.Common.{◌≡◌, ℕ, ◌+◌, ◌≤◌, zero, suc, tru
 use Rattle.std.specs.Prelude.{Bool, ◌&&◌, ◌||◌, not, if◌then◌else◌, Option, Some, None, ℤ, pos, ◌+ℤ◌, int_lt, filter}
 use Rattle.std.specs.List.{list_all, AllByRecursion, Contains}
 use Rattle.std.proofs.lemmas.Int.{ints}
+use Rattle.std.proofs.lemmas.Bool.{and_parts}
 use Rattle.std.proofs.lemmas.Nat.{mul-le}
 use Rattle.std.proofs.lemmas.Grind.{flat_map-append}
 use Rattle.sr_cell.specs.declared.cell.Cell.{Cell}
@@ -98,8 +99,15 @@ first-inside : (column : Column) (columns : List Column) (rects : List Rect) (v 
 first-inside column columns [] v f h = absurd (grind arith)
 first-inside column columns ([] ∷ rects) v f h = absurd (grind arith)
 first-inside column columns ((s ∷ r) ∷ rects) v f h =
-    let e = is_among-append (cuts_of column.kind column.lo column.hi column.nullable s) (first_cuts column rects) v in
-    let x = cut-inside column.kind column.lo column.hi column.nullable s v (grind arith) in let y = first-inside column columns rects v (grind arith) in grind (arith, e, x, y)
+    let p = and_parts (rect_fits (column ∷ columns) (s ∷ r)) (list_all (rect_fits (column ∷ columns)) rects) f in
+    let fits = (and_parts (fits_kind column.kind column.lo column.hi column.nullable s) (rect_fits columns r) p.0).0 in
+    go (is_among (cuts_of column.kind column.lo column.hi column.nullable s) v) (is_among (first_cuts column rects) v)
+    (sym (is_among-append (cuts_of column.kind column.lo column.hi column.nullable s) (first_cuts column rects) v) ∙ h)
+    (cut-inside column.kind column.lo column.hi column.nullable s v fits) (first-inside column columns rects v p.1)
+  where
+    go : (a b : Bool) → (a || b) ≡ true → (a ≡ true → is_inside column v ≡ true) → (b ≡ true → is_inside column v ≡ true) → is_inside column v ≡ true
+    go true b e first second = first refl
+    go false b e first second = second e
 
 others-in : (values : ℕ → List Cell) (c : ℕ) (column : Column) (columns : List Column) (rects : List Rect)
     → AllByRecursion (CutsIn values c (column ∷ columns)) rects → AllByRecursion (CutsIn values (c + 1) columns) (others rects)

@@ -18,7 +18,7 @@ use Rattle.sr_grammar.specs.declared.statement.Atom.TheVariants.{OneOf}
 use Rattle.sr_grammar.specs.Places.{bare_cond, bare_conds, bare_filter, bare_literal}
 use Rattle.sr_grammar.specs.Trees as tree
 use Rattle.sr_join.proofs.Lists.{zip-filter}
-use Rattle.sr_model.specs.Conditions.{Cond, Conds, And, is_true, passes}
+use Rattle.sr_model.specs.Conditions.{Cond, And, is_true, passes}
 use Rattle.sr_model.specs.Sides.{all_true}
 use Rattle.sr_model.proofs.Sides.{and-true}
 use Rattle.sr_model.specs.Conditions as model
@@ -28,7 +28,7 @@ use Rattle.sr_query.proofs.Steps.{split_ok}
 use Rattle.sr_region.specs.Regions.{rank}
 use Rattle.sr_region.proofs.Ranks.{stand}
 use Rattle.sr_lines.proofs.Sound.{all_narrow, made}
-use Rattle.sr_semi.specs.Keys.{is_asked, is_key, key_in, literal_of}
+use Rattle.sr_semi.specs.Keys.{is_key, key_in, literal_of}
 use Rattle.sr_semi.specs.Texts as texts
 use Rattle.sr_semi.specs.Texts.{all_of, bare_reference, conjuncts_on, is_about}
 use Rattle.sr_semi.proofs.Asked.{Matches, Says, is-bound}
@@ -232,19 +232,19 @@ all-true-more value (c ∷ bs) b = go (is_true value (cond_of c)) (all-true-more
     go false e = refl
 
 -- the test for keys that are not Null is true of each of them, and of nothing else
-no-null : (keys : List Cell) → list_all is_asked keys ≡ true → false ≡ is_key keys Null
+no-null : (keys : List Cell) → list_all is_inside keys ≡ true → false ≡ is_key keys Null
 no-null [] asked = refl
-no-null (Num n ∷ keys) asked = no-null keys (and_parts (is_asked (Num n)) (list_all is_asked keys) asked).1
-no-null (Str s ∷ keys) asked = no-null keys (and_parts (is_asked (Str s)) (list_all is_asked keys) asked).1
+no-null (Num n ∷ keys) asked = no-null keys (and_parts (is_inside (Num n)) (list_all is_inside keys) asked).1
+no-null (Str s ∷ keys) asked = no-null keys (and_parts (is_inside (Str s)) (list_all is_inside keys) asked).1
 no-null (Null ∷ keys) asked = absurd cc
 
-one-of : (keys : List Cell) (v : Cell) → list_all is_asked keys ≡ true → passes (model.OneOf keys) v ≡ is_key keys v
+one-of : (keys : List Cell) (v : Cell) → list_all is_inside keys ≡ true → passes (model.OneOf keys) v ≡ is_key keys v
 one-of keys (Num n) asked = refl
 one-of keys (Str s) asked = refl
 one-of keys Null asked = no-null keys asked
 
 -- rows that pass with the keys beside are those that pass, and have one of the keys
-pub with-keys : (keys : List Cell) (need key : ℕ) (bs : List Bound) (b : Bound) (rows : List Row) → list_all is_asked keys ≡ true → has_column need key ≡ true → cond_of b ≡ model.Tests key (model.OneOf keys)
+pub with-keys : (keys : List Cell) (need key : ℕ) (bs : List Bound) (b : Bound) (rows : List Row) → list_all is_inside keys ≡ true → has_column need key ≡ true → cond_of b ≡ model.Tests key (model.OneOf keys)
     → map (project need) (filter (λ p. is_true (cell_at p) (And (list_conds (bs ++ b ∷ [])))) rows)
     ≡ filter (λ r. is_key keys (cell_at r (rank need key))) (map (project need) (filter (λ p. is_true (cell_at p) (And (list_conds bs))) rows))
 with-keys keys need key bs b [] asked has is = refl

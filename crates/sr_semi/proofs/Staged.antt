@@ -10,13 +10,14 @@ use Rattle.sr_cell.specs.declared.cell.Cell.TheVariants.{Num, Str, Null}
 use Rattle.sr_cell.specs.Cells.{Row, cell_at}
 use Rattle.sr_model.specs.Queries.{Part, Join, Query, rows_of}
 use Rattle.sr_model.specs.Statements.{Tables}
+use Rattle.sr_query.specs.Binding.{is_inside}
 use Rattle.sr_semi.specs.declared.stage.Next.TheVariants.{Run, Plain}
 use Rattle.sr_semi.specs.declared.stage.Stage.{Stage}
 use Rattle.sr_semi.specs.declared.stage.Stage.TheVariants.{Left, Right, LeftAgain, Over}
 use Rattle.sr_semi.specs.declared.stage.Step.{Step}
 use Rattle.sr_semi.specs.Answers.{rows_in, with_keys, IsRight}
 use Rattle.sr_semi.specs.Going.{behind_left, ends_with, is_read, joined, joined_to, joins, output_in, step_of}
-use Rattle.sr_semi.specs.Keys.{all_have, at_most, is_asked, is_met, most_keys, values_at, with_key}
+use Rattle.sr_semi.specs.Keys.{all_have, at_most, is_met, most_keys, values_at, with_key}
 use Rattle.sr_semi.specs.Sides.{Sides, left_place, right_place, right_text}
 use Rattle.sr_semi.proofs.Deciding.{values-are-among}
 use Rattle.sr_semi.proofs.JoinedRows.{IsOf, joined-is-answer}
@@ -50,7 +51,7 @@ few-keys most all keys e = go (nat_lt most (length all)) e
 pub record KnowsLeft (rows : List Row) (place : ℕ) (keys : List Cell) (lefts : List Row) : Type 0 where
   pub lefts_are : lefts ≡ rows
   pub among : all_have place keys lefts ≡ true
-  pub inside : list_all is_asked keys ≡ true
+  pub inside : list_all is_inside keys ≡ true
   pub key : Cell
   pub more : List Cell
   pub some : keys ≡ key ∷ more
@@ -74,7 +75,7 @@ pub record Goes (at : ℕ → Tables) (s : Sides) (q : Query) (left right : Part
   pub stage : Knows at s left right step.stage
 
 module _ (at : ℕ → Tables) (s : Sides) (q : Query) (left right : Part) (join : Join) (is : IsOf s q left right join)
-    (inside : (version : ℕ) → list_all is_asked (values_at (left_place s) (rows_in (at version) left)) ≡ true) where
+    (inside : (version : ℕ) → list_all is_inside (values_at (left_place s) (rows_in (at version) left)) ≡ true) where
   -- rows of both sides at one version
   whole : (version : ℕ) (keys : List Cell) (lefts rights : List Row) → lefts ≡ rows_in (at version) left → rights ≡ with_keys s keys (rows_in (at version) right)
       → all_have (left_place s) keys lefts ≡ true → joined s lefts rights ≡ rows_of q (at version)
@@ -107,7 +108,7 @@ module _ (at : ℕ → Tables) (s : Sides) (q : Query) (left right : Part) (join
       if-read (is_read (right_text s.right (k ∷ keys))) version (k ∷ keys) rows (record {
         lefts_are = lefts-are;
         among = ap (λ ks. all_have (left_place s) ks rows) are ∙ values-are-among (left_place s) rows;
-        inside = ap (list_all is_asked) (are ∙ ap (values_at (left_place s)) lefts-are) ∙ inside version;
+        inside = ap (list_all is_inside) (are ∙ ap (values_at (left_place s)) lefts-are) ∙ inside version;
         key = k;
         more = keys;
         some = refl;

@@ -9,26 +9,27 @@ use Rattle.sr_cell.specs.Cells.{Row}
 use Rattle.sr_grammar.specs.Trees.{Statement}
 use Rattle.sr_model.specs.Queries.{Query}
 use Rattle.sr_model.specs.Statements.{Tables}
+use Rattle.sr_query.specs.Binding.{is_inside}
 use Rattle.sr_semi.specs.declared.stage.Next.TheVariants.{Run, Plain}
 use Rattle.sr_semi.specs.declared.stage.Stage.{Stage}
 use Rattle.sr_semi.specs.declared.stage.Stage.TheVariants.{Left, Right, LeftAgain, Over}
 use Rattle.sr_semi.specs.declared.stage.Step.{Step}
 use Rattle.sr_semi.specs.Answers.{Answer, Answers, IsAnswer, AllAnswer, IsRight, nexts, rows_in, stage_behind, with_keys}
 use Rattle.sr_semi.specs.Going.{behind_left, ends_with, is_read, joins, step_of}
-use Rattle.sr_semi.specs.Keys.{all_have, at_most, is_asked, most_keys, values_at}
+use Rattle.sr_semi.specs.Keys.{all_have, at_most, most_keys, values_at}
 use Rattle.sr_semi.specs.Laws.{TextsAskParts, TextsGoDown, FewTexts, is_run, runs_in, texts_left}
 use Rattle.sr_semi.specs.Sides.{Sides, left_place, part_at, right_text, sides_of}
 use Rattle.sr_semi.proofs.Parts.{Two}
 use Rattle.sr_semi.proofs.Staged.{Gives, Knows, goes}
 
 module _ (schema : List Table) (at : ℕ → Tables) (s : Statement) (q : Query) (t : Two schema s q) (texts : (version : ℕ) → TextsAskParts schema s q (at version))
-    (inside : (version : ℕ) → list_all is_asked (values_at (left_place (sides_of schema s q)) (rows_in (at version) t.left)) ≡ true) where
+    (inside : (version : ℕ) → list_all is_inside (values_at (left_place (sides_of schema s q)) (rows_in (at version) t.left)) ≡ true) where
   gives : (stage : Stage) (a : Answer) → Knows at (sides_of schema s q) t.left t.right stage → Answers schema at (sides_of schema s q) stage a
       → Gives at (sides_of schema s q) t.left t.right stage a.version a.rows
   gives Left a knows answer = (texts a.version).left a.rows answer ∙ ap (rows_in (at a.version)) t.left_is
   gives (Right first keys lefts) a knows answer =
       let rows : a.rows ≡ with_keys (sides_of schema s q) (knows.key ∷ knows.more) (rows_in (at a.version) (part_at q 1)) =
-      (texts a.version).right knows.key knows.more a.rows (ap (list_all is_asked) (sym knows.some) ∙ knows.inside)
+      (texts a.version).right knows.key knows.more a.rows (ap (list_all is_inside) (sym knows.some) ∙ knows.inside)
       (subst (λ ks. IsAnswer schema (at a.version) (right_text (sides_of schema s q).right ks) a.rows) knows.some answer) in
       rows
       ∙ (ap (λ ks. with_keys (sides_of schema s q) ks (rows_in (at a.version) (part_at q 1))) (sym knows.some)

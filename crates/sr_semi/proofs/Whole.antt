@@ -1,6 +1,6 @@
 -- What is joined is the answer, where each list of rows is that of the text that was named last.
 use Rattle.std.proofs.Common.{◌≡◌, ℕ, zero, suc, ◌<◌, Bool, true, false, List, [], ◌∷◌, ◌++◌, map, length, Some, None, refl, sym, ap, subst, ◌∙◌, arith, ℤ, pos, negsuc, if◌then◌else◌}
-use Rattle.std.specs.Prelude.{◌&&◌, int_le, nat_lt, not, Ok, Option, filter}
+use Rattle.std.specs.Prelude.{◌&&◌, ◌||◌, int_le, nat_lt, not, Ok, Option, filter}
 use Rattle.std.specs.List.{list_all, AllByRecursion}
 use Rattle.std.proofs.lemmas.Bool.{and_parts, ltb-true, leb-true}
 use Rattle.std.proofs.lemmas.Bool.Decides.{nat_tests}
@@ -29,7 +29,7 @@ use Rattle.sr_region.specs.Regions.{rank}
 use Rattle.sr_region.proofs.Ranks.{stand}
 use Rattle.sr_semi.specs.declared.stage.Stage.TheVariants.{Left}
 use Rattle.sr_semi.specs.Answers.{IsAnswer, IsSchema, TheyFit, has_names, rows_in, with_keys}
-use Rattle.sr_semi.specs.Keys.{is_asked, is_key, key_in, values_at, values_behind, with_known, with_value}
+use Rattle.sr_semi.specs.Keys.{is_key, key_in, values_at, values_behind, with_known, with_value}
 use Rattle.sr_semi.specs.Laws.{JoinedIsAnswer, TextsAsk, TextsAskParts}
 use Rattle.sr_semi.specs.Sides.{left_place, part_at, right_text, sides_of, tables_of}
 use Rattle.sr_semi.specs.Starting.{Asks}
@@ -44,25 +44,29 @@ use Rattle.sr_semi.proofs.ReadBack.{said-conjuncts}
 use Rattle.sr_semi.proofs.Spelled.{AreSayable, IsSayable, IsWritten, each-append, in-sayable}
 use Rattle.sr_semi.proofs.Telling.{all-right}
 
--- ---- cells that may be compared
+-- ---- cells that may be compared, or are Null
 
 small : (z : ℤ) → is_default z ≡ true → IsSmall z
 small (pos n) e = let less = leb-true n 1099511627775 (and_parts (int_le low_default (pos n)) (int_le (pos n) high_default) e).1 in omega (arith, less)
 small (negsuc n) e = let less = leb-true n 1099511627775 (and_parts (int_le low_default (negsuc n)) (int_le (negsuc n) high_default) e).0 in omega (arith, less)
 
-written : (v : Cell) → is_asked v ≡ true → IsWritten v
+written : (v : Cell) → is_inside v ≡ true → IsWritten v
 written (Num z) e = small z e
 written (Str s) e = tt
 written Null e = absurd cc
 
-all-written : (vs : List Cell) → list_all is_asked vs ≡ true → AllByRecursion IsWritten vs
+all-written : (vs : List Cell) → list_all is_inside vs ≡ true → AllByRecursion IsWritten vs
 all-written [] e = tt
-all-written (v ∷ vs) e = let p = and_parts (is_asked v) (list_all is_asked vs) e in (written v p.0, all-written vs p.1)
+all-written (v ∷ vs) e = let p = and_parts (is_inside v) (list_all is_inside vs) e in (written v p.0, all-written vs p.1)
 
 le-trans : (a b c : ℤ) → int_le a b ≡ true → int_le b c ≡ true → int_le a c ≡ true
 le-trans a b c e f = cell_le-trans (Num a) (Num b) (Num c) e f
 
-inside-kind : (d : Column) (kind : Kind) (v : Cell) → not (is_bad_by kind d) ≡ true → takes_kind kind d.lo d.hi d.nullable v ≡ true → is_inside v ≡ true
+-- Null, or a value that may be compared
+abbrev is_held : Cell → Bool
+is_held v = is_null v || is_inside v
+
+inside-kind : (d : Column) (kind : Kind) (v : Cell) → not (is_bad_by kind d) ≡ true → takes_kind kind d.lo d.hi d.nullable v ≡ true → is_held v ≡ true
 inside-kind d kinds.Num (Num n) good takes =
     let t = and_parts (int_le d.lo n) (int_le n d.hi) takes in
     let g = domain (int_le d.lo d.hi && (int_le low_default d.lo && int_le d.hi high_default)) good in
@@ -78,7 +82,7 @@ inside-kind d kinds.Str (Num n) good takes = absurd cc
 inside-kind d kinds.Str (Str s) good takes = takes
 inside-kind d kind Null good takes = refl
 
-inside-cell : (columns : List Column) (row : Row) (c : ℕ) → list_all (λ d. not (is_bad_domain d)) columns ≡ true → fits_columns columns row ≡ true → is_inside (cell_at row c) ≡ true
+inside-cell : (columns : List Column) (row : Row) (c : ℕ) → list_all (λ d. not (is_bad_domain d)) columns ≡ true → fits_columns columns row ≡ true → is_held (cell_at row c) ≡ true
 inside-cell [] [] zero good fits = refl
 inside-cell [] [] (suc c) good fits = refl
 inside-cell [] (v ∷ row) c good fits = absurd cc
@@ -99,29 +103,29 @@ with-all p (w ∷ ws) v all is =
     go false true first others more = rw (is, first) others
     go false false first others more = rw first more
 
-known-asked : (vs : List Cell) (v : Cell) → list_all is_asked vs ≡ true → is_inside v ≡ true → list_all is_asked (with_known vs v) ≡ true
+known-asked : (vs : List Cell) (v : Cell) → list_all is_inside vs ≡ true → is_held v ≡ true → list_all is_inside (with_known vs v) ≡ true
 known-asked vs v all is = go (is_null v) refl
   where
-    go : (b : Bool) → is_null v ≡ b → list_all is_asked (if b then vs else with_value vs v) ≡ true
+    go : (b : Bool) → is_null v ≡ b → list_all is_inside (if b then vs else with_value vs v) ≡ true
     go true e = all
-    go false e = with-all is_asked vs v all (rw (e, is) refl)
+    go false e = with-all is_inside vs v all (rw e at is)
 
-values-asked : (place : ℕ) (vs : List Cell) (rows : List Row) → list_all is_asked vs ≡ true → list_all (λ r. is_inside (cell_at r place)) rows ≡ true → list_all is_asked (values_behind place vs rows) ≡ true
+values-asked : (place : ℕ) (vs : List Cell) (rows : List Row) → list_all is_inside vs ≡ true → list_all (λ r. is_held (cell_at r place)) rows ≡ true → list_all is_inside (values_behind place vs rows) ≡ true
 values-asked place vs [] all rows = all
 values-asked place vs (row ∷ rows) all each =
-    let p = and_parts (is_inside (cell_at row place)) (list_all (λ r. is_inside (cell_at r place)) rows) each in
+    let p = and_parts (is_held (cell_at row place)) (list_all (λ r. is_held (cell_at r place)) rows) each in
     values-asked place (with_known vs (cell_at row place)) rows (known-asked vs (cell_at row place) all p.0) p.1
 
 rows-inside : (need column : ℕ) (columns : List Column) (p : Row → Bool) (rows : List Row) → has_column need column ≡ true → list_all (λ d. not (is_bad_domain d)) columns ≡ true
-    → list_all (fits_columns columns) rows ≡ true → list_all (λ r. is_inside (cell_at r (rank need column))) (map (project need) (filter p rows)) ≡ true
+    → list_all (fits_columns columns) rows ≡ true → list_all (λ r. is_held (cell_at r (rank need column))) (map (project need) (filter p rows)) ≡ true
 rows-inside need column columns p [] has good fits = refl
 rows-inside need column columns p (row ∷ rows) has good fits =
     let f = and_parts (fits_columns columns row) (list_all (fits_columns columns) rows) fits in
     go (p row) f.0 (rows-inside need column columns p rows has good f.1)
   where
-    go : (b : Bool) → fits_columns columns row ≡ true → list_all (λ r. is_inside (cell_at r (rank need column))) (map (project need) (filter p rows)) ≡ true
-        → list_all (λ r. is_inside (cell_at r (rank need column))) (map (project need) (if b then row ∷ filter p rows else filter p rows)) ≡ true
-    go true one more = rw (ap is_inside (stand need column row has) ∙ inside-cell columns row column good one) more
+    go : (b : Bool) → fits_columns columns row ≡ true → list_all (λ r. is_held (cell_at r (rank need column))) (map (project need) (filter p rows)) ≡ true
+        → list_all (λ r. is_held (cell_at r (rank need column))) (map (project need) (if b then row ∷ filter p rows else filter p rows)) ≡ true
+    go true one more = rw (ap is_held (stand need column row has) ∙ inside-cell columns row column good one) more
     go false one more = more
 
 -- ---- what is known of a part's table
@@ -210,7 +214,7 @@ module _ (schema : List Table) (sql : List ℕ) (u : tree.Select) (q : Query) (t
       (subst (λ x. IsAnswer schema tables x rows) text answer)
       ∙ ap (rows_in tables) (sym left-is)
 
-  pub right-rows : (key : Cell) (more : List Cell) (rows : List Row) → list_all is_asked (key ∷ more) ≡ true
+  pub right-rows : (key : Cell) (more : List Cell) (rows : List Row) → list_all is_inside (key ∷ more) ≡ true
       → IsAnswer schema tables (right_text (sides_of schema (tree.Selects u) q).right (key ∷ more)) rows → rows ≡ with_keys (sides_of schema (tree.Selects u) q) (key ∷ more) (rows_in tables (part_at q 1))
   right-rows key more rows inside answer =
       let keys = key ∷ more in
@@ -229,8 +233,8 @@ module _ (schema : List Table) (sql : List ℕ) (u : tree.Select) (q : Query) (t
       ∙ (with-keys keys right_part.need table.key bs (keyed schema two_are.other keys) (rows_at tables two_are.other) inside right-knows.needs refl
       ∙ ap (λ (p : Part). filter (λ r. is_key keys (cell_at r (rank p.need (table_at schema p.table).key))) (rows_in tables p)) (sym right-is))
 
-  -- the keys are values that columns may have, but Null
-  pub left-inside : list_all is_asked (values_at (left_place (sides_of schema (tree.Selects u) q)) (rows_in tables t.left)) ≡ true
+  -- the keys are values that columns may have, and none is Null
+  pub left-inside : list_all is_inside (values_at (left_place (sides_of schema (tree.Selects u) q)) (rows_in tables t.left)) ≡ true
   left-inside =
       let knows = knows-table schema left_part sch (and_parts (is_sound_part schema left_part) _ sound).0 in
       let has : has_column left_part.need t.join.column ≡ true = ap (λ (p : Part). has_column p.need t.join.column) (sym two_are.left_is) ∙ t.is.needs_left in
@@ -238,14 +242,14 @@ module _ (schema : List Table) (sql : List ℕ) (u : tree.Select) (q : Query) (t
       (rows-inside left_part.need t.join.column (table_at schema two_are.one).columns (points_of left_part) (rows_at tables two_are.one) has knows.good (fit two_are.one)) in
       let place : left_place (sides_of schema (tree.Selects u) q) ≡ rank left_part.need t.join.column =
       ap (λ n. rank n (sides_of schema (tree.Selects u) q).left.column) (t.is.left_need ∙ ap (λ (p : Part). p.need) two_are.left_is) ∙ ap (rank left_part.need) t.is.left_column in
-      ap (λ n. list_all is_asked (values_at n (rows_in tables t.left))) place ∙ (ap (λ p. list_all is_asked (values_at (rank left_part.need t.join.column) (rows_in tables p))) two_are.left_is ∙ all)
+      ap (λ n. list_all is_inside (values_at n (rows_in tables t.left))) place ∙ (ap (λ p. list_all is_inside (values_at (rank left_part.need t.join.column) (rows_in tables p))) two_are.left_is ∙ all)
 
 -- ---- the laws
 
 -- of each version of the tables
 pub record Known (schema : List Table) (s : tree.Statement) (q : Query) (tables : Tables) (t : Two schema s q) : Type 0 where
   pub texts_ask : TextsAskParts schema s q tables
-  pub inside : list_all is_asked (values_at (left_place (sides_of schema s q)) (rows_in tables t.left)) ≡ true
+  pub inside : list_all is_inside (values_at (left_place (sides_of schema s q)) (rows_in tables t.left)) ≡ true
 
 known : (schema : List Table) (sql : List ℕ) (u : tree.Select) (q : Query) (tables : Tables) → IsSchema schema → TheyFit schema tables → Asks schema sql (tree.Selects u) q → (t : Two schema (tree.Selects u) q)
     → Known schema (tree.Selects u) q tables t

@@ -1,5 +1,5 @@
 -- The keys that the left part asks for.
-use Rattle.std.specs.Prelude.{ℕ, ◌<◌, ◌≡◌, true, ◌&&◌, ◌||◌, not, ◌/◌, max, Bool, nat_lt, List, [], ◌∷◌, length, map, filter, fold, Option, Some, None, if◌then◌else◌}
+use Rattle.std.specs.Prelude.{ℕ, ◌<◌, ◌≡◌, true, ◌||◌, ◌/◌, max, Bool, nat_lt, List, [], ◌∷◌, length, map, filter, fold, Option, Some, None, if◌then◌else◌}
 use Rattle.std.specs.List.{list_any, list_all}
 use Rattle.sr_cell.specs.declared.cell.Cell.{Cell}
 use Rattle.sr_cell.specs.declared.table.Table.{Table}
@@ -8,7 +8,7 @@ use Rattle.sr_grammar.specs.declared.statement.Literal.{Literal}
 use Rattle.sr_grammar.specs.declared.statement.Atom.TheVariants.{OneOf}
 use Rattle.sr_grammar.specs.Trees.{Cond, Test}
 use Rattle.sr_model.specs.Conditions.{Eq, passes}
-use Rattle.sr_query.specs.Binding.{column_at, is_inside}
+use Rattle.sr_query.specs.Binding.{column_at}
 use Rattle.sr_semi.specs.Texts.{bare_reference}
 
 -- a value more, in its place, unless it is there
@@ -27,10 +27,6 @@ values_behind place values rows = fold (λ vs row. with_known vs (cell_at row pl
 -- the different values in that place of the rows, ascending, without Null
 abbrev pub values_at : ℕ → List Row → List Cell
 values_at place rows = values_behind place [] rows
-
--- a value that may be asked for: one that a column may have, but Null
-abbrev pub is_asked : Cell → Bool
-is_asked v = not (is_null v) && is_inside v
 
 abbrev pub literal_of : Cell → Literal
 literal_of v = record { cell = v; place = 0 }

@@ -7,13 +7,14 @@ use Rattle.sr_cell.specs.Cells.{Row}
 use Rattle.sr_grammar.specs.Trees.{Statement}
 use Rattle.sr_model.specs.Queries.{Query, rows_of}
 use Rattle.sr_model.specs.Statements.{Tables}
+use Rattle.sr_query.specs.Binding.{is_inside}
 use Rattle.sr_semi.specs.declared.stage.Next.{Next}
 use Rattle.sr_semi.specs.declared.stage.Next.TheVariants.{Run, Joined, Plain}
 use Rattle.sr_semi.specs.declared.stage.Stage.{Stage}
 use Rattle.sr_semi.specs.declared.stage.Stage.TheVariants.{Left, Right, LeftAgain, Over}
 use Rattle.sr_semi.specs.Answers.{IsSchema, TheyFit, rows_in, with_keys, IsAnswer, Answer, AllAnswer, nexts, IsRight}
 use Rattle.sr_semi.specs.Going.{joined, step_of}
-use Rattle.sr_semi.specs.Keys.{all_have, is_asked, values_at}
+use Rattle.sr_semi.specs.Keys.{all_have, values_at}
 use Rattle.sr_semi.specs.Sides.{Sides, left_place, part_at, sides_of, right_text}
 use Rattle.sr_semi.specs.Starting.{Asks}
 
@@ -28,10 +29,10 @@ abbrev pub ValuesAreAmong : Type 0
 ValuesAreAmong = (place : ℕ) (rows : List Row) → all_have place (values_at place rows) rows ≡ true
 
 -- The left text asks the rows of the left part; the right text those of the right part that have one of the keys, which are values that
--- columns may have, but Null.
+-- columns may have, and none is Null.
 pub record TextsAskParts (schema : List Table) (s : Statement) (q : Query) (tables : Tables) : Type 0 where
   pub left : (rows : List Row) → IsAnswer schema tables (sides_of schema s q).left.text rows → rows ≡ rows_in tables (part_at q 0)
-  pub right : (key : Cell) (more : List Cell) (rows : List Row) → list_all is_asked (key ∷ more) ≡ true
+  pub right : (key : Cell) (more : List Cell) (rows : List Row) → list_all is_inside (key ∷ more) ≡ true
       → IsAnswer schema tables (right_text (sides_of schema s q).right (key ∷ more)) rows → rows ≡ with_keys (sides_of schema s q) (key ∷ more) (rows_in tables (part_at q 1))
 
 -- so they do of each query of two tables

@@ -223,7 +223,7 @@ due-sent db session sound upto = by (is_lost db session)
 
 -- ---- the rows of an ask
 
-projected-cells : (p : Cell → Bool) (c attrs : ℕ) (row : Row) → list_all p row ≡ true → list_all p (project_from c attrs row) ≡ true
+pub projected-cells : (p : Cell → Bool) (c attrs : ℕ) (row : Row) → list_all p row ≡ true → list_all p (project_from c attrs row) ≡ true
 projected-cells p c attrs [] all = refl
 projected-cells p c attrs (v ∷ row) all = let s = and_parts (p v) (list_all p row) all in go (has_column attrs c) s.0 (projected-cells p (c + 1) attrs row s.1)
   where
@@ -231,7 +231,7 @@ projected-cells p c attrs (v ∷ row) all = let s = and_parts (p v) (list_all p 
     go true own rest = both_true own rest
     go false own rest = rest
 
-projected-few : (c attrs : ℕ) (row : Row) → length (project_from c attrs row) ≤ length row
+pub projected-few : (c attrs : ℕ) (row : Row) → length (project_from c attrs row) ≤ length row
 projected-few c attrs [] = omega arith
 projected-few c attrs (v ∷ row) = go (has_column attrs c) (projected-few (c + 1) attrs row)
   where
@@ -239,7 +239,7 @@ projected-few c attrs (v ∷ row) = go (has_column attrs c) (projected-few (c + 
     go true le = omega (arith, le)
     go false le = omega (arith, le)
 
-projected-some : (c attrs k : ℕ) (row : Row) → k < length row → has_column attrs (c + k) ≡ true → 1 ≤ length (project_from c attrs row)
+pub projected-some : (c attrs k : ℕ) (row : Row) → k < length row → has_column attrs (c + k) ≡ true → 1 ≤ length (project_from c attrs row)
 projected-some c attrs k [] there has = absurd (omega (arith, there))
 projected-some c attrs k (v ∷ row) there has = go (has_column attrs c) refl k refl (λ j below rest. projected-some (c + 1) attrs j row below rest)
   where

@@ -1,12 +1,10 @@
 -- Lists of rects without needless constraints.
-use Rattle.std.proofs.Common.{◌≡◌, ℕ, zero, suc, true, false, List, [], ◌∷◌, ◌++◌, ◌+◌, ◌*◌, ◌/◌, ◌%◌, ◌^◌, ◌<◌, ◌≤◌, ◌⊎◌, inl, inr, length, slice_index_or, refl, arith, ◌∙◌, sym, ap, subst}
-use Rattle.std.specs.Prelude.{Bool, ◌||◌, ◌==◌, slice_set, if◌then◌else◌, ℤ, pos, ◌+ℤ◌, int_lt, Some, None}
+use Rattle.std.proofs.Common.{◌≡◌, ℕ, zero, suc, true, false, List, [], ◌∷◌, ◌+◌, ◌*◌, ◌/◌, ◌%◌, ◌^◌, ◌<◌, ◌≤◌, ◌⊎◌, inl, inr, length, slice_index_or, refl, arith, ◌∙◌, sym, ap, subst}
+use Rattle.std.specs.Prelude.{Bool, ◌||◌, ◌==◌, slice_set, if◌then◌else◌, ℤ}
 use Rattle.std.specs.List.{list_all}
 use Rattle.std.proofs.Math.Nat.{pow-succ', div-div-eq-div-mul, add-mul-div_left, add-mul-mod_self_left, div-one}
 use Rattle.sr_cell.specs.declared.cell.Cell.{Cell}
-use Rattle.sr_cell.specs.declared.cell.Cell.TheVariants.{Num, Str}
 use Rattle.sr_cell.specs.declared.table.Kind.{Kind}
-use Rattle.sr_cell.specs.declared.table.Kind.TheVariants.{Num as Numbers, Str as Texts}
 use Rattle.sr_cell.specs.declared.table.Column.{Column}
 use Rattle.sr_cell.specs.Attrs.{has_column}
 use Rattle.sr_cell.specs.Cells.{Row}
@@ -22,11 +20,10 @@ use Rattle.sr_union.proofs.Cuts.{is_among-append}
 use Rattle.sr_union.proofs.Inner.{fits_length}
 use Rattle.sr_union.proofs.Once.{are_self}
 use Rattle.sr_union.proofs.Parts.{are_fit}
-use Rattle.sr_box.specs.Corners.{num_cut, cuts_of, have_first}
+use Rattle.sr_box.specs.Corners.{cuts_of, have_first}
 use Rattle.sr_union.specs.Pieces.{HasOutside, IsWithin, ConstrainsEssential, AllConstrainEssential}
 use Rattle.std.proofs.lemmas.Bool.{cases_lt}
 use Rattle.sr_cell.proofs.Booleans.{same_tests}
-use Rattle.sr_cell.proofs.Order.{cell_eq-refl}
 use Rattle.sr_cell.proofs.ColumnSets.{has_column-none}
 use Rattle.sr_box.proofs.Essential.{essential-same}
 use Rattle.sr_union.proofs.SpanCuts.{no_cut-full, null_has_cut, numbers_cut, texts_cut}

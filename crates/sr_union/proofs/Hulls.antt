@@ -48,7 +48,7 @@ meet_at zero (s ∷ r) (t ∷ q) h = none_first (meet s t) (rect_meet r q) h
 meet_at (suc k) (s ∷ r) (t ∷ q) h = none_rest (meet s t) (rect_meet r q) (meet_at k r q h)
 
 -- lists of rects that lie in hulls of which no two rects meet do not meet
-meet_none : (i : Hull) (r : Rect) (others : List Rect) → ((q : Rect) → in_hull i q ≡ true → is_some (rect_meet r q) ≡ false) → list_all (in_hull i) others ≡ true
+pub meet_none : (i : Hull) (r : Rect) (others : List Rect) → ((q : Rect) → in_hull i q ≡ true → is_some (rect_meet r q) ≡ false) → list_all (in_hull i) others ≡ true
     → list_any (λ q. is_some (rect_meet r q)) others ≡ false
 meet_none i r [] f g = refl
 meet_none i r (q ∷ others) f g =

@@ -5,6 +5,7 @@ use Rattle.std.specs.List.{list_all}
 use Rattle.std.proofs.lemmas.List.{length-append, length-drop, take_more, take_all}
 use Rattle.std.proofs.lemmas.List.Folds.{list_all-append}
 use Rattle.std.proofs.lemmas.Int.{ints}
+use Rattle.std.proofs.Math.Bool.{or_comm}
 use Rattle.sr_cell.specs.declared.cell.Cell.{Cell}
 use Rattle.sr_cell.specs.declared.cell.Cell.TheVariants.{Num, Str, Null as NullCell}
 use Rattle.sr_cell.specs.declared.table.Kind.{Kind}
@@ -18,12 +19,13 @@ use Rattle.sr_box.specs.declared.span.Span.TheVariants.{Full, Nums, Strs}
 use Rattle.sr_box.specs.Spans.{in_span, is_below, is_whole, fits_kind, span_fits}
 use Rattle.sr_box.specs.Points.{Rect, in_rect, rect_fits, times}
 use Rattle.sr_box.proofs.Order.{is_below-between}
+use Rattle.sr_box.specs.Corners.{text_cut, end_cut, null_cut}
 use Rattle.sr_union.specs.Grid.{is_among, has_cut, first_cuts, others, CutsAmong, AreCutFrom}
 use Rattle.sr_union.specs.Pieces.{IsMinus, IsOnce}
 use Rattle.sr_union.specs.Joined.{AreBeside, numbers, texts, IsBoth, IsJoined}
 use Rattle.sr_union.proofs.Times.{times-append}
 use Rattle.sr_union.proofs.Cuts.{cut-is, nums-cut, strs-cut}
-use Rattle.sr_union.proofs.Among.{AreCutFrom-append}
+use Rattle.sr_union.proofs.Among.{AreCutFrom-append, among_either}
 use Rattle.sr_union.proofs.Parts.{are_fit}
 use Rattle.sr_union.proofs.Inner.{fits_length}
 use Rattle.sr_union.proofs.Once.{are_self, are_trans, once_more, with_one}
@@ -160,10 +162,25 @@ numbers-cuts low high n a b c d v h =
     let x = nums-cut low high a d v in let y = nums-cut low high a b v in let z = nums-cut low high c d v in
     let p = cut-is Numbers low high n (Nums a d) v in let q = cut-is Numbers low high n (Nums a b) v in let r = cut-is Numbers low high n (Nums c d) v in grind (arith, x, y, z, p, q, r)
 
+texts-cut : (low high : ℤ) (n : Bool) (lo : List ℕ) (hi : Option (List ℕ)) (v : Cell)
+    → has_cut Texts low high n (Strs lo hi) v ≡ (is_among (null_cut n) v || (is_among (text_cut lo) v || is_among (end_cut hi) v))
+texts-cut low high n lo hi v = cut-is Texts low high n (Strs lo hi) v ∙ ap (λ x. is_among (null_cut n) v || x) (strs-cut low high lo hi v)
+
+outer : (n a b c d : Bool) → (n || (a || d)) ≡ true → ((n || (a || b)) || (n || (c || d))) ≡ true
+outer true a b c d h = refl
+outer false true b c d h = refl
+outer false false true c d h = refl
+outer false false false true d h = refl
+outer false false false false d h = h
+
+outer_of : (x y z n a b c d : Bool) → x ≡ (n || (a || d)) → y ≡ (n || (a || b)) → z ≡ (n || (c || d)) → x ≡ true → (y || z) ≡ true
+outer_of x y z n a b c d e f g h = rw (f, g) (outer n a b c d (sym e ∙ h))
+
 texts-cuts : (low high : ℤ) (n : Bool) (a c : List ℕ) (b d : Option (List ℕ)) (v : Cell) → has_cut Texts low high n (Strs a d) v ≡ true → (has_cut Texts low high n (Strs a b) v || has_cut Texts low high n (Strs c d) v) ≡ true
 texts-cuts low high n a c b d v h =
-    let x = strs-cut low high a d v in let y = strs-cut low high a b v in let z = strs-cut low high c d v in
-    let p = cut-is Texts low high n (Strs a d) v in let q = cut-is Texts low high n (Strs a b) v in let r = cut-is Texts low high n (Strs c d) v in grind (arith, x, y, z, p, q, r)
+    outer_of (has_cut Texts low high n (Strs a d) v) (has_cut Texts low high n (Strs a b) v) (has_cut Texts low high n (Strs c d) v)
+    (is_among (null_cut n) v) (is_among (text_cut a) v) (is_among (end_cut b) v) (is_among (text_cut c) v) (is_among (end_cut d) v)
+    (texts-cut low high n a d v) (texts-cut low high n a b v) (texts-cut low high n c d v) h
 
 -- what both spans make, for the kind of a column
 record IsOne (k : Kind) (low high : ℤ) (n : Bool) (s t u : Span) : Type 0 where
@@ -208,7 +225,7 @@ turned : (c : Column) (s t w : Span) → IsBoth c t s w → IsBoth c s t w
 turned c s t w h = record {
   once = λ v e. let x = h.once v e in omega (arith, x);
   fits = h.fits;
-  cuts = λ v e. let x = h.cuts v e in grind (arith, x);
+  cuts = λ v e. or_comm (has_cut c.kind c.lo c.hi c.nullable s v) (has_cut c.kind c.lo c.hi c.nullable t v) ∙ h.cuts v e;
 }
 
 -- and where the first begins just above the end of the second
@@ -257,7 +274,7 @@ twins-cuts (d ∷ cs) given (u ∷ r) [] k c s t w h i j m b x y = absurd (let f
 twins-cuts (d ∷ cs) given (u ∷ r) (v ∷ q) zero c s t w h i j m b x y = (
   λ n e. let o = subst (λ z. has_cut z.kind z.lo z.hi z.nullable w n ≡ true → (has_cut z.kind z.lo z.hi z.nullable s n || has_cut z.kind z.lo z.hi z.nullable t n) ≡ true) i (b.cuts n) e in
       let left = subst (λ z. has_cut d.kind d.lo d.hi d.nullable z n ≡ true → is_among (first_cuts d given) n ≡ true) (sym j) (x.0 n) in
-      let right = subst (λ z. has_cut d.kind d.lo d.hi d.nullable z n ≡ true → is_among (first_cuts d given) n ≡ true) (sym m) (y.0 n) in grind (arith, o, left, right),
+      let right = subst (λ z. has_cut d.kind d.lo d.hi d.nullable z n ≡ true → is_among (first_cuts d given) n ≡ true) (sym m) (y.0 n) in among_either d given s t n o left right,
   x.1,
 )
 twins-cuts (d ∷ cs) given (u ∷ r) (v ∷ q) (suc k) c s t w h i j m b x y =

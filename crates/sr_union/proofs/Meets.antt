@@ -17,7 +17,7 @@ use Rattle.sr_union.specs.Pieces.{meet_each, meet_all, near}
 use Rattle.sr_union.specs.Grid.{has_cut, others, CutsAmong, AreCutFrom}
 use Rattle.sr_union.proofs.Cuts.{maybe_cut, meet-cut}
 use Rattle.sr_union.proofs.Times.{times-append}
-use Rattle.sr_union.proofs.Among.{AreCutFrom-append}
+use Rattle.sr_union.proofs.Among.{AreCutFrom-append, among_either}
 use Rattle.sr_union.proofs.Parts.{are_part}
 
 some-times : (m : Option Rect) (p : Row) → times (option_to_list m) p ≡ (if in_some m p then 1 else 0)
@@ -70,7 +70,7 @@ rect_meet-are (c ∷ cs) given (s ∷ r) (t ∷ q) f g h k =
         → AreCutFrom cs (others given) (option_to_list n) → AreCutFrom (c ∷ cs) given (option_to_list (with_first m n))
     go None n e x y = tt
     go (Some m) None e x y = tt
-    go (Some m) (Some n) e x y = let fit = y.0 in (grind (arith, e, fit), ((λ v is. let z = x v is in let a = h.0 v in let b = k.0 v in grind (arith, z, a, b)), y.1), tt)
+    go (Some m) (Some n) e x y = let fit = y.0 in (grind (arith, e, fit), ((λ v is. among_either c given s t v (x v is) (h.0 v) (k.0 v)), y.1), tt)
 
 meet_each-are : (cs : List Column) (given : List Rect) (r : Rect) (qs : List Rect) → rect_fits cs r ≡ true → CutsAmong cs r given → AreCutFrom cs given qs → AreCutFrom cs given (meet_each r qs)
 meet_each-are cs given r [] f h k = tt

@@ -6,10 +6,9 @@ use Rattle.sr_cell.specs.declared.table.Column.{Column}
 use Rattle.sr_cell.specs.declared.table.Kind.{Kind}
 use Rattle.sr_cell.specs.declared.table.Kind.TheVariants.{Num as Numbers, Str as Texts}
 use Rattle.sr_cell.specs.Cells.{cell_eq}
-use Rattle.sr_cell.specs.Columns.{in_column}
 use Rattle.sr_box.specs.declared.span.Span.{Span}
 use Rattle.sr_box.specs.Points.{Rect, rect_fits}
-use Rattle.sr_box.specs.Corners.{cuts_of, first_value}
+use Rattle.sr_box.specs.Corners.{cuts_of}
 
 abbrev pub is_among : List Cell → Cell → Bool
 is_among vs v = list_any (λ u. cell_eq u v) vs

@@ -161,6 +161,20 @@ impl Hull {
         self.third.meets(&other.third)
     }
 
+    /// Whether the rect may meet one of these.
+    pub(crate) fn may_meet(&self, rect: &Rect) -> bool
+        ensures { (q : Spans) → result ≡ false → in_hull self.now q ≡ true → is_some (rect_meet rect.now q) ≡ false }
+    {
+        let none = Bound::empty();
+        if !grown(&none, rect, 0).meets(&self.first) {
+            return false;
+        }
+        if !grown(&none, rect, 1).meets(&self.second) {
+            return false;
+        }
+        grown(&none, rect, 2).meets(&self.third)
+    }
+
     /// Whether rects of these may have the row.
     pub(crate) fn may_have(&self, row: &Row) -> bool
         ensures { (r : Spans) → result ≡ false → in_hull self.now r ≡ true → in_rect r row.now ≡ false }

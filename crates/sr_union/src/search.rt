@@ -55,7 +55,7 @@ fn push_pieces(
     cut: &Rect,
     from: usize,
 ) -> Result<(), NoMemory>
-    requires rect_fits { rect_fits columns.now rect ≡ true }
+    requires width { length rect ≡ length columns.now }
     requires fits { rect_fits columns.now cut.now ≡ true }
     requires inner { all_inner columns.now ≡ true }
     ensures { OnOk result (todo.new ≡ todo.old ++ todos from (rect_minus columns.now rect cut.now)) }

@@ -1,0 +1,10 @@
+pub mod Widths
+pub mod Order
+pub mod Parts
+pub mod Fits
+pub mod Corners
+pub mod Constrained
+pub mod Meets
+pub mod Prefixes
+pub mod Projected
+pub mod Essential

@@ -1,0 +1,10 @@
+pub mod Order
+pub mod Fitting
+pub mod TableNames
+pub mod Booleans
+pub mod Numbers
+pub mod Digits
+pub mod Results
+pub mod Lists
+pub mod ColumnSets
+pub mod Columns

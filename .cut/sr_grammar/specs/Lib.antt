@@ -1,0 +1,12 @@
+pub mod Tokens
+pub mod Rules
+pub mod Trees
+pub mod Words
+pub mod Conditions
+pub mod Columns
+pub mod Statements
+pub mod Says
+pub mod Printed
+pub mod Spaced
+pub mod Places
+pub mod Seen

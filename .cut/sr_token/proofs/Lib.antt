@@ -1,0 +1,6 @@
+pub mod Quotes
+mod Ascii
+mod Cuts
+mod Streams
+mod Spans
+mod Texts

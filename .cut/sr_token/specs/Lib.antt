@@ -1,0 +1,5 @@
+pub mod Tokens
+pub mod Spans
+pub mod Classes
+pub mod Places
+pub mod Texts

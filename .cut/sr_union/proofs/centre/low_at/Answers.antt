@@ -1,0 +1,10 @@
+use Rattle.std.proofs.Common.{ap, sym, ◌∙◌}
+use Rattle.std.specs.Option.{option_copied}
+use Rattle.sr_union.specs.Centre.{low_of}
+use Rattle.sr_union.proofs.Middles.{none_at, held}
+use Rattle.sr_union.proofs.centre.low_at.Goals as goal
+
+pub returns-in-None : goal.returns-in-None
+returns-in-None c =
+    let none = none_at c.args.rect.now c.args.k (sym c.get.ensures ∙ ap option_copied c.in-None.is) in
+    held c.low_of-in-None.result (record { sfits = c.low_of-in-None.type_inv }) ∙ (c.low_of-in-None.ensures ∙ ap (low_of c.args.column.now.kind c.args.column.now.lo) (sym none))

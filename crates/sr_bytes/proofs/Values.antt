@@ -1,5 +1,5 @@
 -- Cells, rows, spans and rects: what is spelled is read again, and what is read is spelled.
-use Rattle.std.proofs.Common.{◌≡◌, ℕ, zero, suc, ◌^◌, ◌<◌, ◌≤◌, Bool, true, List, [], ◌∷◌, ◌++◌, length, Some, None, refl, sym, ap, subst, ◌∙◌, append_assoc, arith}
+use Rattle.std.proofs.Common.{◌≡◌, ℕ, zero, suc, ◌^◌, ◌<◌, ◌≤◌, Bool, List, [], ◌∷◌, ◌++◌, length, Some, None, refl, sym, ap, subst, ◌∙◌, append_assoc, arith}
 use Rattle.std.specs.Prelude.{IsTrue, ◌&&◌, int_le, not, nat_le, nat_lt}
 use Rattle.std.specs.Int.{w16, w32}
 use Rattle.std.specs.List.{list_all, flat_map}

@@ -1,5 +1,5 @@
 -- What a value must keep to be written, beyond what its type gives: a number's 64 bits, a text's UTF-8, bytes below 256.
-use Rattle.std.specs.Prelude.{◌≡◌, ℕ, int_le, Bool, true, ◌&&◌, not, nat_le, List, [], length, take, Some, None}
+use Rattle.std.specs.Prelude.{◌≡◌, ℕ, int_le, Bool, true, ◌&&◌, not, nat_le, List, length, take, Some, None}
 use Rattle.std.specs.List.{list_all}
 use Rattle.sr_cell.specs.declared.cell.Cell.{Cell}
 use Rattle.sr_cell.specs.declared.cell.Cell.TheVariants.{Num, Str, Null as NullCell}

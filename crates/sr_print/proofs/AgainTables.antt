@@ -105,20 +105,22 @@ past_key k c (d ∷ others) l = (ap (λ b. b && d.nullable) (ne_eqb k c (λ e. o
 
 null_key : (k c : ℕ) (ds : List Definition) → list_any has_bad_domain ds ≡ false → list_any is_nullable_key ds ≡ false → k ≡ key_of ds + c → NoNullKey k c (map column_of ds)
 null_key k c [] e n here = tt
-null_key k c (d ∷ ds) e n here = go (is_key d) refl
+null_key k c (d ∷ ds) e n here = go (is_key d) refl (null_key k (c + 1) ds parted.1 named.1)
   where
-    go : (b : Bool) → is_key d ≡ b → NoNullKey k c (map column_of (d ∷ ds))
-    go true is =
-        let bad = or_parts (has_bad_domain d) (list_any has_bad_domain ds) e in
-        let none = or_parts (is_nullable_key d) (list_any is_nullable_key ds) n in
-        let never : (column_of d).nullable ≡ false = column_null d bad.0 ∙ right_false (is_key d) (is_nullable d) is none.0 in
+    parted : (has_bad_domain d ≡ false) × (list_any has_bad_domain ds ≡ false)
+    parted = or_parts (has_bad_domain d) (list_any has_bad_domain ds) e
+
+    named : (is_nullable_key d ≡ false) × (list_any is_nullable_key ds ≡ false)
+    named = or_parts (is_nullable_key d) (list_any is_nullable_key ds) n
+
+    go : (b : Bool) → is_key d ≡ b → (k ≡ key_of ds + (c + 1) → NoNullKey k (c + 1) (map column_of ds)) → NoNullKey k c (map column_of (d ∷ ds))
+    go true is later =
+        let never : (column_of d).nullable ≡ false = column_null d parted.0 ∙ right_false (is_key d) (is_nullable d) is named.0 in
         let same : k ≡ 0 + c = here ∙ ap (λ t. (if t then 0 else key_of ds + 1) + c) is in
         (ap (λ b. (k == c) && b) never ∙ and_false (k == c), past_key k (c + 1) (map column_of ds) (omega (arith, same)))
-    go false is =
-        let bad = or_parts (has_bad_domain d) (list_any has_bad_domain ds) e in
-        let none = or_parts (is_nullable_key d) (list_any is_nullable_key ds) n in
-        let later : k ≡ key_of ds + 1 + c = here ∙ ap (λ t. (if t then 0 else key_of ds + 1) + c) is in
-        (ap (λ b. b && (column_of d).nullable) (ne_eqb k c (λ e. omega (arith, later))), null_key k (c + 1) ds bad.1 none.1 (omega (arith, later)))
+    go false is later =
+        let behind : k ≡ key_of ds + 1 + c = here ∙ ap (λ t. (if t then 0 else key_of ds + 1) + c) is in
+        (ap (λ b. b && (column_of d).nullable) (ne_eqb k c (λ e. omega (arith, behind))), later (omega (arith, behind)))
 
 no_null_key : (k c : ℕ) (all : List Column) → AreSound all → NoNullKey k c all → list_any is_nullable_key (redefined k c all) ≡ false
 no_null_key k c [] s n = refl
@@ -246,6 +248,6 @@ pub record IsCreated (t : Table) : Type 0 where
 pub create_created : (tree : Tree) (x : List Tok) (t : Table) → Writable x → IsCreate tree x → statement_of tree ≡ Ok (Create t) → IsCreated t
 create_created tree x t w h e =
     let d = spelled_defined tree x (Create t) w h e in
-    let made = (unjudged (list_any has_bad_domain (d.first ∷ d.others)) (length (filter is_key (d.first ∷ d.others)) == 1) _ _ (Create (table_of d.title (d.first ∷ d.others))) (Create t) d.says).2 in
+    let made = (unjudged (list_any has_bad_domain (d.first ∷ d.others)) (list_any is_nullable_key (d.first ∷ d.others)) (length (filter is_key (d.first ∷ d.others)) == 1) _ _ _ (Create (table_of d.title (d.first ∷ d.others))) (Create t) d.says).3 in
     let same : table_of d.title (d.first ∷ d.others) ≡ t = cc in
     subst IsCreated same (record { named = d.named; columns = d.sound })

@@ -16,7 +16,7 @@ use Rattle.sr_lines.specs.Texts.{joined, number_text, bytes_text}
 use Rattle.sr_script.specs.TraceText.{bound_text, span_text, spans_text, rect_text, rects_text}
 use Rattle.sr_script.specs.Printable.{is_name, are_different, is_signed, has_signed_ends}
 use Rattle.sr_script.proofs.Plain.{is_stop, first_is, others_are, number_cut, number_numeral, no_numeral}
-use Rattle.sr_script.proofs.Quoted.{text_cut, no_text, no_n}
+use Rattle.sr_script.proofs.Quoted.{text_cut, no_text, no_n, null_rest}
 use Rattle.sr_script.proofs.Listed.{IsCut, list_cut}
 use Rattle.sr_script.proofs.Named.{no_same, name_cut, name_begins}
 
@@ -78,7 +78,7 @@ ends_cut (Nums a b) (Strs c d) x y p q f g h k e =
 ends_cut (Strs a b) (Nums c d) x y p q f g h k e =
     absurd (no_text (number_text c) 46 (46 ∷ (number_text d ++ (q ∷ y))) a (46 ∷ 46 ∷ (bound_text b ++ (p ∷ x))) (number_numeral c (first_so _ _ g)) refl
     (sym (dots (number_text c) (number_text d) (q ∷ y)) ∙ sym e ∙ dots (bytes_text a) (bound_text b) (p ∷ x)))
-ends_cut Null Null x y p q f g h k e = (refl, let rest : p ∷ x ≡ q ∷ y = cc in rest)
+ends_cut Null Null x y p q f g h k e = (refl, null_rest (p ∷ x) (q ∷ y) e)
 ends_cut (Nums a b) Null x y p q f g h k e =
     absurd (no_numeral (number_text a) 46 110 (46 ∷ (number_text b ++ (p ∷ x))) _ (number_numeral a (first_so _ _ f)) refl refl refl
     (sym (dots (number_text a) (number_text b) (p ∷ x)) ∙ e))

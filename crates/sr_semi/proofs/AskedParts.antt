@@ -18,7 +18,7 @@ use Rattle.sr_grammar.specs.declared.statement.Atom.TheVariants.{OneOf}
 use Rattle.sr_grammar.specs.Places.{bare_cond, bare_conds, bare_filter, bare_literal}
 use Rattle.sr_grammar.specs.Trees as tree
 use Rattle.sr_join.proofs.Lists.{zip-filter}
-use Rattle.sr_model.specs.Conditions.{Cond, Conds, And, is_true, passes}
+use Rattle.sr_model.specs.Conditions.{Cond, And, is_true, passes}
 use Rattle.sr_model.specs.Sides.{all_true}
 use Rattle.sr_model.proofs.Sides.{and-true}
 use Rattle.sr_model.specs.Conditions as model

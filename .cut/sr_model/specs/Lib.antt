@@ -1,9 +1,0 @@
-pub mod Conditions
-pub mod Ends
-pub mod Width
-pub mod Sides
-pub mod Queries
-pub mod SortedRows
-pub mod Statements
-pub mod Changes
-pub mod Loads

@@ -144,6 +144,7 @@ module _ {Z : Type 0} (C : Type 0) (Stands : C → Client → Type 0) (lent : C 
         }
 
     pub begin-fails : (new_l : Linking) → OnlyFaults l new_l → Rose l.faults new_l.faults → (Z → l.peers ≡ Some []) → Broken C Stands lent IsOf Has k s further number new_l Q [] new
+    unfolding begin-alone
     begin-fails new_l only rose last =
         short-breaks C Stands lent IsOf Has k s further number l new_l Q [] new (begin-alone new_l only) rose (steadily-peer Z (count_faults r.calls) 0 (length r.calls) s.linking l new_l last r.steadily)
 

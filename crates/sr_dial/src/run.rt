@@ -218,9 +218,9 @@ fn run_plan<H: Host, C: Asks, P: Plans>(
 ) -> Result<Ending, NoMemory>
     requires asks { (ahead : Ahead) × P.follows (C.setting client.old).schema plans.old ahead }
     requires room { 4000004 * P.depth plans.old ≤ C.room client.old }
-    ensures ended { RunsAll C.Asks H.linking H.writing P.follows result schema.now address.now failed plans.old
+    ensures ended { RunsAll C.Asks H.linking H.writing H.IsSteady P.follows result schema.now address.now failed plans.old
         host.old host.new feed.old feed.new client.old client.new }
-    ensures broken_off { PlanOff C.Asks H.linking H.writing P.follows result schema.now address.now failed plans.old host.old host.new feed.old client.old }
+    ensures broken_off { PlanOff C.Asks H.linking H.writing H.IsSteady P.follows result schema.now address.now failed plans.old host.old host.new feed.old client.old }
     ensures setting { C.setting client.new ≡ C.setting client.old }
     ensures stays { OnlyOutput H H.reading H.held H.complaints H.IsSteady host.old host.new }
     ensures steady_writes { H.IsSteady host.old → IfOk result (λ ending. ending ≢ EndsUnwritten) }
@@ -282,9 +282,9 @@ fn go_on<H: Host, C: Asks, P: Plans>(
 ) -> Result<Ending, NoMemory>
     requires asks { (ahead : Ahead) × P.follows (C.setting client.old).schema plans.old ahead }
     requires room { 4000004 * P.depth plans.old ≤ C.room client.old }
-    ensures ended { GoesOnWith C.Asks H.linking H.writing P.follows result schema.now address.now end plans.old
+    ensures ended { GoesOnWith C.Asks H.linking H.writing H.IsSteady P.follows result schema.now address.now end plans.old
         host.old host.new feed.old feed.new client.old client.new }
-    ensures broken_off { GoesOnOff C.Asks H.linking H.writing P.follows result schema.now address.now end plans.old host.old host.new feed.old client.old }
+    ensures broken_off { GoesOnOff C.Asks H.linking H.writing H.IsSteady P.follows result schema.now address.now end plans.old host.old host.new feed.old client.old }
     ensures setting { C.setting client.new ≡ C.setting client.old }
     ensures stays { OnlyOutput H H.reading H.held H.complaints H.IsSteady host.old host.new }
     ensures steady_writes { H.IsSteady host.old → end ≢ LineEnds EndsUnwritten → IfOk result (λ ending. ending ≢ EndsUnwritten) }
@@ -311,8 +311,8 @@ pub fn run<H: Host, C: Asks, P: Plans>(
     requires asks { (ahead : Ahead) × P.follows (C.setting client.old).schema plans.old ahead }
     requires room { 4000004 * (P.depth plans.old + 1) ≤ C.room client.old }
     requires fresh { C.lent client.old ≡ None }
-    ensures ran { RunsFrom C.Asks H.linking H.writing P.follows result schema.now address.now plans.old host.old host.new client.old client.new }
-    ensures broken_off { RunsOff C.Asks H.linking H.writing P.follows result schema.now address.now plans.old host.old host.new client.old }
+    ensures ran { RunsFrom C.Asks H.linking H.writing H.IsSteady P.follows result schema.now address.now plans.old host.old host.new client.old client.new }
+    ensures broken_off { RunsOff C.Asks H.linking H.writing H.IsSteady P.follows result schema.now address.now plans.old host.old host.new client.old }
     ensures setting { C.setting client.new ≡ C.setting client.old }
     ensures stays { OnlyOutput H H.reading H.held H.complaints H.IsSteady host.old host.new }
     ensures steady_writes { H.IsSteady host.old → IfOk result (λ ending. ending ≢ EndsUnwritten) }

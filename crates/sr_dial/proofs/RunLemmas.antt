@@ -42,33 +42,33 @@ module _ {Z : Type 0} (C : Type 0) (Stands : C → Client → Type 0) (lent : C 
       left-is k.keeps s.plan (all_done (h.course.earlier ++ h.course.call ∷ [])) d.ahead (lent code) h.course.steps.ahead_is h.course.steps.answer_is ∙ d.none in
       record {
         to = record {
-        run = record {
-          ran = record {
-            earlier = h.course.earlier;
-            last = h.course.call;
-            are = calls-one s.past h.course.earlier h.course.call h.course.are h.course.is;
-            in_place = h.course.steps.in_place;
-            few = h.course.steps.few;
-            from = h.course.steps.from;
-            goes = h.course.steps.goes;
-            carried = h.course.carried;
-            last_carried = subst (λ b. IsCarried b h.course.call) (sym written) (record { taken = h.course.taken; sent = h.sent; counted = λ whole. h.counted });
-            dialled = dialled-one s.address h.course.earlier h.course.call h.course.before_dialled h.course.dialled;
-            each_told = told-more s.linking.peers h.course.earlier h.course.call h.course.before_told h.course.is_told;
-            made = made-still (made-of (left_by s.past (h.course.earlier ++ h.course.call ∷ [])).cut h.course.earlier h.course.call s.linking l h.there);
-            hung_up = ap (λ (x : Linking). x.is_up) gone;
-            faults = subst (λ (x : Linking). RoseBy s.linking.faults (count_faults (h.course.earlier ++ h.course.call ∷ [])) x.faults) (sym gone) h.faults;
-            calm = λ whole. ap (λ (x : Linking). x.faults) gone ∙ h.calm (fine whole);
-            ends = ends (h.course.earlier ++ h.course.call ∷ []) (left_by s.past (h.course.earlier ++ h.course.call ∷ [])) h.course.call.left (left (stage_by k.keeps s.plan (all_done (h.course.earlier ++ h.course.call ∷ []))))
-                (record { all = none; free = d.free.free; failed_is = h.failed_is });
-            writes = writes (flat_map (said_by k) (all_done (h.course.earlier ++ h.course.call ∷ []))) h.course.steps.writes;
+          run = record {
+            ran = record {
+              earlier = h.course.earlier;
+              last = h.course.call;
+              are = calls-one s.past h.course.earlier h.course.call h.course.are h.course.is;
+              in_place = h.course.steps.in_place;
+              few = h.course.steps.few;
+              from = h.course.steps.from;
+              goes = h.course.steps.goes;
+              carried = h.course.carried;
+              last_carried = subst (λ b. IsCarried b h.course.call) (sym written) (record { taken = h.course.taken; sent = h.sent; counted = λ whole. h.counted });
+              dialled = dialled-one s.address h.course.earlier h.course.call h.course.before_dialled h.course.dialled;
+              each_told = told-more s.linking.peers h.course.earlier h.course.call h.course.before_told h.course.is_told;
+              made = made-still (made-of (left_by s.past (h.course.earlier ++ h.course.call ∷ [])).cut h.course.earlier h.course.call s.linking l h.there);
+              hung_up = ap (λ (x : Linking). x.is_up) gone;
+              faults = subst (λ (x : Linking). RoseBy s.linking.faults (count_faults (h.course.earlier ++ h.course.call ∷ [])) x.faults) (sym gone) h.faults;
+              calm = λ whole. ap (λ (x : Linking). x.faults) gone ∙ h.calm (fine whole);
+              ends = ends (h.course.earlier ++ h.course.call ∷ []) (left_by s.past (h.course.earlier ++ h.course.call ∷ [])) h.course.call.left (left (stage_by k.keeps s.plan (all_done (h.course.earlier ++ h.course.call ∷ []))))
+                  (record { all = none; free = d.free.free; failed_is = h.failed_is });
+              writes = writes (flat_map (said_by k) (all_done (h.course.earlier ++ h.course.call ∷ []))) h.course.steps.writes;
+            };
+            fair = h.course.steps.fair;
+            lawful = h.course.steps.lawful;
+            explained = h.course.steps.explained;
           };
-          fair = h.course.steps.fair;
-          lawful = h.course.steps.lawful;
-          explained = h.course.steps.explained;
-        };
-        code_is = λ fine. h.course.steps.code_is;
-        stands = λ fine. h.course.steps.stands;
+          code_is = λ fine. h.course.steps.code_is;
+          stands = λ fine. h.course.steps.stands;
         };
         steady_links = quiet h.course.earlier h.course.call h.steadily;
       }
@@ -76,32 +76,32 @@ module _ {Z : Type 0} (C : Type 0) (Stands : C → Client → Type 0) (lent : C 
   over-ran : (ended : Ending) → (ended ≡ ending.Whole → ⊥) → Over C Stands lent IsOf Has k s ended l w code → RanSteadily C Z Stands IsOf Has k s.code s.past s.address s.plan ended s.linking new_l s.writing w code
   over-ran ended early o = record {
     to = record {
-    run = record {
-      ran = record {
-        earlier = o.earlier;
-        last = o.last;
-        are = o.are;
-        in_place = o.in_place;
-        few = o.few;
-        from = o.from;
-        goes = o.goes;
-        carried = o.carried;
-        last_carried = o.last_carried;
-        dialled = o.dialled;
-        each_told = o.each_told;
-        made = made-still o.made;
-        hung_up = ap (λ (x : Linking). x.is_up) gone;
-        faults = subst (λ (x : Linking). RoseBy s.linking.faults (count_faults (o.earlier ++ o.last ∷ [])) x.faults) (sym gone) o.faults;
-        calm = λ whole. absurd (early whole);
-        ends = o.ends (left (stage_by k.keeps s.plan (all_done (o.earlier ++ o.last ∷ []))));
-        writes = o.writes;
+      run = record {
+        ran = record {
+          earlier = o.earlier;
+          last = o.last;
+          are = o.are;
+          in_place = o.in_place;
+          few = o.few;
+          from = o.from;
+          goes = o.goes;
+          carried = o.carried;
+          last_carried = o.last_carried;
+          dialled = o.dialled;
+          each_told = o.each_told;
+          made = made-still o.made;
+          hung_up = ap (λ (x : Linking). x.is_up) gone;
+          faults = subst (λ (x : Linking). RoseBy s.linking.faults (count_faults (o.earlier ++ o.last ∷ [])) x.faults) (sym gone) o.faults;
+          calm = λ whole. absurd (early whole);
+          ends = o.ends (left (stage_by k.keeps s.plan (all_done (o.earlier ++ o.last ∷ []))));
+          writes = o.writes;
+        };
+        fair = o.fair;
+        lawful = o.lawful;
+        explained = o.explained;
       };
-      fair = o.fair;
-      lawful = o.lawful;
-      explained = o.explained;
-    };
-    code_is = o.code_is;
-    stands = o.stands;
+      code_is = o.code_is;
+      stands = o.stands;
     };
     steady_links = quiet o.earlier o.last o.steadily;
   }

@@ -42,7 +42,8 @@ fn start<H: Host, C: Asks>(
 ) -> Result<Handed, NoMemory>
     requires asks { (task : Task) × IsJob (C.setting client.old).schema job task }
     requires room { 2 ≤ C.room client.old }
-    ensures started { StartsJob C.Asks H.linking H.writing H.IsSteady result schema.now address.now job host.old host.new feed.old feed.new client.old client.new }
+    ensures started { StartsJob C.Asks H.linking H.writing H.IsSteady result schema.now address.now job
+        host.old host.new feed.old feed.new client.old client.new }
     ensures broken_off { JobOff C.Asks H.linking H.writing H.IsSteady result schema.now address.now job host.old host.new feed.old client.old }
     ensures setting { C.setting client.new ≡ C.setting client.old }
     ensures draws { C.room client.old ≤ C.room client.new + 2 }
@@ -67,7 +68,8 @@ fn start_line<H: Host, C: Asks>(
 ) -> Result<Handed, NoMemory>
     requires asks { (task : Task) × IsTask (C.setting client.old).schema line.event task }
     requires room { 2 ≤ C.room client.old }
-    ensures started { StartsLine C.Asks H.linking H.writing H.IsSteady result schema.now address.now line host.old host.new feed.old feed.new client.old client.new }
+    ensures started { StartsLine C.Asks H.linking H.writing H.IsSteady result schema.now address.now line
+        host.old host.new feed.old feed.new client.old client.new }
     ensures broken_off { LineOff C.Asks H.linking H.writing H.IsSteady result schema.now address.now line host.old host.new feed.old client.old }
     ensures setting { C.setting client.new ≡ C.setting client.old }
     ensures draws { C.room client.old ≤ C.room client.new + 2 }
@@ -220,7 +222,8 @@ fn run_plan<H: Host, C: Asks, P: Plans>(
     requires room { 4000004 * P.depth plans.old ≤ C.room client.old }
     ensures ended { RunsAll C.Asks H.linking H.writing H.IsSteady P.follows result schema.now address.now failed plans.old
         host.old host.new feed.old feed.new client.old client.new }
-    ensures broken_off { PlanOff C.Asks H.linking H.writing H.IsSteady P.follows result schema.now address.now failed plans.old host.old host.new feed.old client.old }
+    ensures broken_off { PlanOff C.Asks H.linking H.writing H.IsSteady P.follows result schema.now address.now failed plans.old
+        host.old host.new feed.old client.old }
     ensures setting { C.setting client.new ≡ C.setting client.old }
     ensures stays { OnlyOutput H H.reading H.held H.complaints H.IsSteady host.old host.new }
     ensures steady_writes { H.IsSteady host.old → IfOk result (λ ending. ending ≢ EndsUnwritten) }
@@ -284,7 +287,8 @@ fn go_on<H: Host, C: Asks, P: Plans>(
     requires room { 4000004 * P.depth plans.old ≤ C.room client.old }
     ensures ended { GoesOnWith C.Asks H.linking H.writing H.IsSteady P.follows result schema.now address.now end plans.old
         host.old host.new feed.old feed.new client.old client.new }
-    ensures broken_off { GoesOnOff C.Asks H.linking H.writing H.IsSteady P.follows result schema.now address.now end plans.old host.old host.new feed.old client.old }
+    ensures broken_off { GoesOnOff C.Asks H.linking H.writing H.IsSteady P.follows result schema.now address.now end plans.old
+        host.old host.new feed.old client.old }
     ensures setting { C.setting client.new ≡ C.setting client.old }
     ensures stays { OnlyOutput H H.reading H.held H.complaints H.IsSteady host.old host.new }
     ensures steady_writes { H.IsSteady host.old → end ≢ LineEnds EndsUnwritten → IfOk result (λ ending. ending ≢ EndsUnwritten) }

@@ -237,7 +237,8 @@ pub(crate) fn begin<H: Host, C: Asks>(
 ) -> Result<Handed, NoMemory>
     requires asks { (deed : Deed) × IsDeed (C.setting client.old).schema event deed }
     requires room { 2 ≤ C.room client.old }
-    ensures begun { BeginsLink C.Asks H.linking H.writing H.IsSteady result schema.now address.now number event host.old host.new feed.old feed.new client.old client.new }
+    ensures begun { BeginsLink C.Asks H.linking H.writing H.IsSteady result schema.now address.now number event
+        host.old host.new feed.old feed.new client.old client.new }
     ensures broken_off { BeginsOff C.Asks H.linking H.writing H.IsSteady result schema.now address.now number event host.old host.new feed.old client.old }
     ensures setting { C.setting client.new ≡ C.setting client.old }
     ensures draws { C.room client.old ≤ C.room client.new + 2 }

@@ -1,13 +1,18 @@
 -- A step of the code is what the rules allow, from any past that it stands for.
-use Rattle.std.proofs.Common.{◌≡◌, ℕ, Bool, true, false, List, [], refl, sym, ◌∙◌, ap, subst, Option, None}
+use Rattle.std.proofs.Common.{◌≡◌, ◌≤◌, ℕ, Bool, map, true, false, List, [], refl, sym, ◌∙◌, ap, subst, Option, None}
 use Rattle.std.specs.Prelude.{◌≢◌}
 use Rattle.std.specs.List.{All}
+use Rattle.std.proofs.lemmas.List.{length-map}
 use Rattle.std.proofs.lemmas.List.Elements.{All-cons, All-nil}
 use Rattle.sr_cell.specs.declared.fault.Fault.{Fault}
 use Rattle.sr_message.specs.declared.message.Message.{Message}
 use Rattle.sr_message.specs.declared.message.Message.TheVariants.{Ask, Write}
 use Rattle.sr_script.specs.declared.line.TraceLine.{TraceLine}
+use Rattle.sr_history.specs.Classes.{stamp}
 use Rattle.sr_store.specs.Brought.{IsToldOf}
+use Rattle.sr_store.specs.Past.{class_of}
+use Rattle.sr_store.proofs.Classing.{all_solid, are_classes}
+use Rattle.sr_store.proofs.KeptTold.{kept_told_rows}
 use Rattle.sr_store.specs.Told.{Told}
 use Rattle.sr_session.specs.Sessions.{Database}
 use Rattle.sr_session.specs.Clients as session
@@ -19,15 +24,28 @@ use Rattle.sr_links.specs.Brought.{GoesByTold, IsLawful, told_next}
 use Rattle.sr_links.specs.Steps.{Deed, ComesIf, Does, IsFair}
 use Rattle.sr_dial.specs.Calls.{lines_of}
 use Rattle.sr_client.specs.ByTold as by
+use Rattle.sr_client.specs.ByTold.{ClientsKeepToBudgets}
 use Rattle.sr_client.specs.Stands.{StandsFor, Stays, out_of}
 use Rattle.sr_client.specs.Steps as client
 use Rattle.sr_client.specs.Steps.{Moves}
 use Rattle.sr_client.specs.declared.client.Client.{Client}
-use Rattle.sr_client.proofs.BudgetLemmas.{clients-keep-to-budgets}
+use Rattle.sr_client.proofs.TableLemmas.{have-first}
 use Rattle.sr_dial.specs.Following.{answer_of}
 use Rattle.sr_dial.specs.Known.{IsFrom, KeepsLink}
 use Rattle.sr_dial.specs.declared.parts.Answer.{Answer}
 use Rattle.sr_calls.specs.ClientEnds.{Did, HasTold, IsEnd, end_with, silent}
+
+-- by the rows that were told a client keeps to its budgets
+clients-keep-to-budgets : ClientsKeepToBudgets
+clients-keep-to-budgets c past told (h, f, same) is =
+    let first = have-first c.schema f.tables in
+    subst (KeepsToBudgets (told_basis c.schema c.store.limits told)) (sym same) (record {
+      rows = subst (λ n. n ≤ c.store.limits.rows)
+          (sym (kept_told_rows c.schema told h.marks (stamp h.queries) c.store.regions first is.0 f.store.each (all_solid c.schema c.store.regions first f.store.each) f.keeps is.1)) f.rows;
+      classes = map class_of c.store.regions;
+      are = are_classes c.schema h.marks h.queries c.store.regions first f.store.each f.store.order f.keeps;
+      few = subst (λ n. n ≤ c.store.limits.regions) (sym (length-map c.store.regions class_of)) f.few;
+    })
 
 -- over a cut link nothing is out
 pub rests : (past : session.Client) (c : Client) → StandsFor past c → past.cut ≡ true → past.out ≡ None

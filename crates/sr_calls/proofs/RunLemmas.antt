@@ -39,7 +39,7 @@ ran_new id address schema limits keeps says plan ended old new before after left
 pub ran_new_steadily : (Steady : Type 0) (id : ℕ) (address : List ℕ) (schema : List Table) (limits : Limits) (keeps says : Bool) (plan : Plan Task Answer) (ended : Ending) (old new : Linking) (before after : Writing) (left : End) → list_all is_table schema ≡ true
     → RanSteadilyFrom Steady (new_end id schema limits keeps says) new_past address plan ended old new before after left → RanNewSteadily Steady id address schema limits keeps says plan ended old new before after
 ran_new_steadily Steady id address schema limits keeps says plan ended old new before after left tables ran =
-    record { run = ran_new id address schema limits keeps says plan ended old new before after left tables ran.to; steady_links = ran.steady_links }
+    record { run = record { begins = begins id schema limits keeps says tables; left = left; ran = ran.to }; steady_links = ran.steady_links }
 
 pub broke_new : (id : ℕ) (address : List ℕ) (schema : List Table) (limits : Limits) (keeps says : Bool) (plan : Plan Task Answer) (old new : Linking) (before after : Writing) → list_all is_table schema ≡ true
     → RanOff (new_end id schema limits keeps says) new_past address plan old new before after → RanNewInPart id address schema limits keeps says plan old new before after

@@ -110,6 +110,10 @@ has_image Whole = true
 has_image Faulty = true
 has_image other = false
 
+-- the bytes that are written behind a run that ended so and left this end, if any are
+abbrev pub bytes_left : List Table → End → Ending → List ℕ
+bytes_left tables left ending = if has_image ending then image_bytes tables (held_image left.client) else []
+
 -- A new client of the words' number ran, as that of `client` does, but without writing a line.
 abbrev pub RanQuietly : ClientWords → List Table → Ahead → Ending → Linking → Linking → Writing → Writing → Type 0
 RanQuietly words tables ahead ending old new before after = RanNew words.id words.address tables words.limits false false (Next 0 (Do Resumed) ahead) ending old new before after
@@ -118,7 +122,7 @@ RanQuietly words tables ahead ending old new before after = RanNew words.id word
 pub record Saves (words : ClientWords) (tables : List Table) (ahead : Ahead) (ending : Ending) (old new : Linking) (before after : Writing) : Type 0 where
   pub middle : Writing
   pub ran : RanQuietly words tables ahead ending old new before middle
-  pub image : WritesAll (if has_image ending then image_bytes tables (held_image ran.left.client) else []) before after
+  pub image : WritesAll (bytes_left tables ran.left ending) before after
 
 -- Or only this was: a part of it, or a beginning out of memory.
 pub record SavesOnly (Writes : List ℕ → Writing → Writing → Type 0) (words : ClientWords) (tables : List Table) (ahead : Ahead) (old new : Linking) (before after : Writing) : Type 0 where
@@ -364,10 +368,6 @@ abbrev pub WroteLeft : List ℕ → Ending → Writing → Writing → Result (U
 WroteLeft bytes ending before after (Ok done) = WritesAll (if has_image ending then bytes else []) before after
 WroteLeft bytes ending before after (Err (NoBut failed)) = (has_image ending ≡ true) × WritesPart bytes before after
 WroteLeft bytes ending before after (Err Wanting) = (has_image ending ≡ true) × WritesOff bytes before after
-
--- the bytes that are written behind a run that ended so and left this end, if any are
-abbrev pub bytes_left : List Table → End → Ending → List ℕ
-bytes_left tables left ending = if has_image ending then image_bytes tables (held_image left.client) else []
 
 -- how a run ended of which this was written, and why it stops
 abbrev pub EndsQuietly : List Table → End → Ending → Writing → Writing → Ending → Type 0

@@ -203,9 +203,11 @@ fn warm_begun<H: Host, P: Plans>(
     requires begun { (bytes : List ℕ) × BeginsAs words.now schema.now bytes (string_bytes begun.text) begun.end }
     requires asks { (ahead : Ahead) × P.follows schema.now plans.old ahead }
     requires few { P.depth plans.old < 2 ^ 40 }
-    ensures whole { (bytes : List ℕ) (ahead : Ahead) → BeginsAs words.now schema.now bytes (string_bytes begun.text) begun.end → P.follows schema.now plans.old ahead
+    ensures whole { (bytes : List ℕ) (ahead : Ahead) → BeginsAs words.now schema.now bytes (string_bytes begun.text) begun.end
+        → P.follows schema.now plans.old ahead
         → OnOk result (WarmsOf H H.linking H.writing host.old host.new words.now schema.now ahead bytes Whole) }
-    ensures stopped { (bytes : List ℕ) (ahead : Ahead) → BeginsAs words.now schema.now bytes (string_bytes begun.text) begun.end → P.follows schema.now plans.old ahead
+    ensures stopped { (bytes : List ℕ) (ahead : Ahead) → BeginsAs words.now schema.now bytes (string_bytes begun.text) begun.end
+        → P.follows schema.now plans.old ahead
         → IfErr result (StopsWarmingOf H H.linking H.writing host.old host.new words.now schema.now ahead bytes) }
     ensures steady_writes { H.IsSteady host.old → ¬ IsErrOf result (Refused Write) }
     ensures stays { OnlyOutput H H.reading H.held H.complaints H.IsSteady host.old host.new }
@@ -231,9 +233,11 @@ fn warm_on<H: Host, P: Plans>(
     requires asks { (ahead : Ahead) × P.follows schema.now plans.old ahead }
     requires room { 4000004 * (P.depth plans.old + 1) ≤ room_of end.old.client }
     requires fresh { end.old.answer ≡ None }
-    ensures whole { (past : Past) (ahead : Ahead) → StandsFor past end.old.client → past.cut ≡ true → past.out ≡ None → P.follows schema.now plans.old ahead
+    ensures whole { (past : Past) (ahead : Ahead) → StandsFor past end.old.client → past.cut ≡ true → past.out ≡ None
+        → P.follows schema.now plans.old ahead
         → OnOk result (RanOn H H.linking H.writing host.old host.new end.old past words.now.address ahead end.new Whole) }
-    ensures stopped { (past : Past) (ahead : Ahead) → StandsFor past end.old.client → past.cut ≡ true → past.out ≡ None → P.follows schema.now plans.old ahead
+    ensures stopped { (past : Past) (ahead : Ahead) → StandsFor past end.old.client → past.cut ≡ true → past.out ≡ None
+        → P.follows schema.now plans.old ahead
         → IfErr result (StopsOn H H.linking H.writing host.old host.new end.old past words.now.address ahead end.new) }
     ensures steady_writes { H.IsSteady host.old → ¬ IsErrOf result (Refused Write) }
     ensures stays { OnlyOutput H H.reading H.held H.complaints H.IsSteady host.old host.new }

@@ -12,9 +12,6 @@ use Rattle.sr_cli.specs.declared.report.Refusal.TheVariants.{Read, Write}
 pub one_refusal : {T : Type 0} (a b : Refusal) → IsErrOf {T = T} (Err a) b → a ≡ b
 one_refusal a b is = cc
 
-pub one_stop : {T : Type 0} (a b : Refusal) → IsErrOf {T = T} (Err (Refused a)) (Refused b) → a ≡ b
-one_stop a b is = cc
-
 -- where a file was not read, reading failed if that is said
 pub stop-failed : {T : Type 0} (cause : ReadFault) → IsErrOf {T = T} (Err (Refused (unread_of cause))) (Refused Read) → cause ≡ read.Fault
 stop-failed {T} read.Fault is = refl

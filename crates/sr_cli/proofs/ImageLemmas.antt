@@ -237,9 +237,6 @@ nothing-more (Some xs) = sym (append-nil xs)
 pub writes-none : (w : Writing) → WritesAll [] w w
 writes-none w = (nothing-more w.written, refl)
 
-pub writes-off-none : (w : Writing) (bytes : List ℕ) → WritesOff bytes w w
-writes-off-none w bytes = (record { count = 0; within = omega arith; appended = nothing-more w.written }, refl)
-
 -- a run without lines writes nothing
 silent-run : {C : Type 0} (k : Setting) (ds : List (Done C)) → k.says ≡ false → flat_map (said_by k) ds ≡ []
 silent-run {C} k [] is = refl

@@ -41,11 +41,6 @@ not_long held words schema exec loads files (inl long) = let w = files.schema_re
 not_long held words schema exec loads files (inr (inl long)) = exec_short held words.exec exec files.exec_read long
 not_long held words schema exec loads files (inr (inr long)) = some_short held words.loads loads files.loads_read long
 
--- or one behind the exec file
-pub behind_long : (held : List ℕ → Option (List ℕ)) (left : Option (List ℕ)) (name : Option (List ℕ)) (read : List ℕ) (back : List (List ℕ)) → IsExec held name read → SomeTooLong held left back → SomeTooLong held left (exec_files name ++ back)
-behind_long held left None read back is long = long
-behind_long held left (Some name) read back is long = inr (read, is, long)
-
 exec_long : (held : List ℕ → Option (List ℕ)) (left : Option (List ℕ)) (name : Option (List ℕ)) (exec : List ℕ) → IsHeldExec held name exec → SomeTooLong held left (exec_files name) → IsLong exec
 exec_long held left None exec is long = absurd long
 exec_long held left (Some name) exec is (inl long) = too_long_held (held name) left exec is long

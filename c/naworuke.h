@@ -101,11 +101,12 @@ uint64_t naworuke_sent(naworuke *client, uint8_t *room, size_t length);
 /* How many rows the last answer has. */
 uint64_t naworuke_rows(naworuke *client);
 
-/* A cell of the last answer: 1 a number, 2 a text, whose length is the number and which goes into the room where that is long enough, 0 none. */
+/* A cell of the last answer: 1 a number, 2 a text, whose length is the number and which goes into the room where that is long enough, 3 NULL,
+   0 none. */
 uint32_t naworuke_cell(naworuke *client, size_t row, size_t column, int64_t *number, uint8_t *room, size_t length);
 
 /* Makes bytes of the last answer for naworuke_text: for each row the number of its cells, in four bytes, and each cell, a byte 0 and
-   eight bytes of a number, or a byte 1, four bytes of a length and a text. Numbers have the highest byte first. */
+   eight bytes of a number, a byte 1, four bytes of a length and a text, or a byte 2 of NULL. Numbers have the highest byte first. */
 uint32_t naworuke_pack(naworuke *client);
 
 /* How many bytes the lines of the last explanation have, or the rows that were packed since; they go into the room as above. */

@@ -7,7 +7,7 @@ from .sql import Refusal
 
 
 class Test(NamedTuple):
-    """A test of the column with this number: a comparison, BETWEEN, IN or LIKE of these values."""
+    """A test of the column with this number: a comparison, BETWEEN, IN or LIKE of these values, or IS, which is of NULL."""
     column: int
     word: str
     values: list
@@ -93,7 +93,7 @@ def bound_places(places: list, table: Table) -> list:
 
 
 def judge_type(literal: sql.Literal, is_text: bool) -> None:
-    if isinstance(literal.value, bytes) != is_text:
+    if literal.value is not None and isinstance(literal.value, bytes) != is_text:
         raise Refusal('wrong-type', literal.at)
 
 

@@ -6,9 +6,11 @@ MOST_BYTES = 134217728
 WIRE = 2
 ALL_COLUMNS = list(range(12))
 
-Cell = Union[int, bytes]
-# a span is None for all values, or its two ends; a text has no upper end where the second is None
+# NULL is None
+Cell = Union[None, int, bytes]
+# a span is None for all values, or its two ends; a text has no upper end where the second is None; NULL alone is a span of its own
 Span = Union[None, tuple]
+NULL_SPAN = 'null', 'null'
 Rect = tuple
 
 
@@ -75,23 +77,31 @@ FLAG = Field(lambda reader: number(1, 0, 1).read(reader) == 1, lambda value: b'\
 LONG, BYTE = number(8), number(1)
 SHORT_TEXT = text(number(1, 0, 120), True)
 BOUND = text(number(1, 0, 121), False)
-BOUND_OF_SOME = text(number(1, 1, 121), False)
 
 
-def read_cell(reader: Reader) -> Cell:
-    return (SHORT_TEXT if FLAG.read(reader) else SIGNED).read(reader)
+def read_cell(reader: Reader, last: int = 2) -> Cell:
+    kind = number(1, 0, last).read(reader)
+    return None if kind == 2 else (SHORT_TEXT if kind else SIGNED).read(reader)
 
 
-CELL = Field(read_cell, lambda cell: b'\0' + SIGNED.spell(cell) if isinstance(cell, int) else b'\1' + SHORT_TEXT.spell(cell))
+def spell_cell(cell: Cell) -> bytes:
+    if cell is None:
+        return b'\2'
+    return b'\0' + SIGNED.spell(cell) if isinstance(cell, int) else b'\1' + SHORT_TEXT.spell(cell)
+
+
+CELL = Field(read_cell, spell_cell)
+# a key is not NULL
+KEY = Field(lambda reader: read_cell(reader, 1), spell_cell)
 ROW = many(number(1, 1, 12), CELL)
 
 
 def read_span(reader: Reader) -> Span:
-    kind = number(1, 0, 3).read(reader)
-    if kind == 0:
-        return None
+    kind = number(1, 0, 4).read(reader)
+    if kind in (0, 4):
+        return NULL_SPAN if kind else None
     if kind == 3:
-        return BOUND_OF_SOME.read(reader), None
+        return BOUND.read(reader), None
     end = SIGNED if kind == 1 else BOUND
     low, at, high = end.read(reader), reader.at, end.read(reader)
     if low > high or kind == 2 and low == high:
@@ -102,6 +112,8 @@ def read_span(reader: Reader) -> Span:
 def spell_span(span: Span) -> bytes:
     if span is None:
         return b'\0'
+    if span == NULL_SPAN:
+        return b'\4'
     low, high = span
     if isinstance(low, int):
         return b'\1' + SIGNED.spell(low) + SIGNED.spell(high)
@@ -142,7 +154,7 @@ HOLDING = {1: Field(lambda reader: Holding(TABLE_HELD.read(reader), ALL_COLUMNS,
            2: one(Holding, TABLE_HELD, COLUMNS, RECTS)}
 PART = one(Part, BYTE, COLUMNS, RECTS)
 MAYBE_ROW = Field(lambda reader: ROW.read(reader) if FLAG.read(reader) else None, lambda row: b'\0' if row is None else b'\1' + ROW.spell(row))
-TELL = one(Tell, BYTE, CELL, MAYBE_ROW)
+TELL = one(Tell, BYTE, KEY, MAYBE_ROW)
 
 
 # ---- messages
@@ -241,7 +253,7 @@ KINDS = {
     0x13: (Rows, ROWS),
     0x14: (Reply, one(Reply, LONG, LONG)),
     0x15: (Written, one(Written, LONG, LONG)),
-    0x16: (Refused, one(Refused, LONG, number(1, 1, 31), number(4))),
+    0x16: (Refused, one(Refused, LONG, number(1, 1, 33), number(4))),
     0x17: (Lapse, one(Lapse, LONG)),
 }
 KIND_OF = {kind: byte for byte, (kind, _) in KINDS.items()}

@@ -292,5 +292,5 @@ def span_fits(column, span) -> bool:
         return True
     low, high = span
     if column.is_text:
-        return isinstance(low, bytes)
+        return isinstance(low, bytes) and span != (b'', None)
     return isinstance(low, int) and column.low <= low and high <= column.high

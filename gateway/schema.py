@@ -20,7 +20,9 @@ class Column(NamedTuple):
     high: int
 
     def fault_of(self, value) -> str:
-        """Why a value of the column's kind can't stand in it, or nothing."""
+        """Why a value of the column's kind, or NULL, can't stand in it, or nothing."""
+        if value is None:
+            return 'null-cell'
         if self.is_text:
             return 'long-cell' if len(value) > MOST_TEXT else ''
         return '' if self.low <= value <= self.high else 'domain-cell'
@@ -48,6 +50,9 @@ def table_of(create: sql.Create, before: list) -> Table:
         raise sql.Refusal('too-many-tables', MOST_TABLES)
     if len(names) > MOST_COLUMNS:
         raise sql.Refusal('too-many-columns', len(names))
+    nullable = [c for c, column in enumerate(create.columns) if ('NULL',) in column.rules]
+    if nullable:
+        raise sql.Refusal('bad-null', nullable[0])
     keys = [c for c, column in enumerate(create.columns) if ('PRIMARY',) in column.rules]
     return Table(create.name, list(map(column_of, create.columns)), keys[0])
 

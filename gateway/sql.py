@@ -4,7 +4,7 @@ from typing import Callable, NamedTuple, Optional, Union
 
 MOST_BYTES, MOST_WORD, MOST_DIGITS, MOST_LEVELS = 65536, 64, 18, 64
 LEAST_NUMBER, MOST_NUMBER = -2 ** 40, 2 ** 40 - 1
-RESERVED = set('AND BETWEEN CHECK CREATE DELETE FROM IN INNER INSERT INT INTEGER INTO JOIN KEY LIKE NOT NULL ON OR PRIMARY SELECT SET '
+RESERVED = set('AND BETWEEN CHECK CREATE DELETE FROM IN INNER INSERT INT INTEGER INTO IS JOIN KEY LIKE NOT NULL ON OR PRIMARY SELECT SET '
                'TABLE TEXT UPDATE VALUES WHERE'.split())
 BLANKS = re.compile(rb'[ \t\r\n]*')
 TOKEN = re.compile(rb"(?P<word>[A-Za-z_]\w*)|(?P<number>[0-9]+)|'(?P<text>(?:[^']|'')*+)'|(?P<mark><=|>=|<>|!=|[(),;.*\-=<>])", re.ASCII)
@@ -14,7 +14,7 @@ COMPARISONS = ('=', '<>', '<', '<=', '>', '>=')
 WHY = {word: number for number, word in enumerate(
     'long-text bad-token grammar deep unknown-table unknown-column ambiguous wrong-type out-of-domain not-key-join repeated wrong-count mixed '
     'too-wide too-many-tables not-a-write not-a-query duplicate-key domain-cell long-cell key-change table-full too-many-changes '
-    'duplicate-name too-many-columns no-key bad-domain bad-header bad-record bad-number bad-utf8'.split(), 1)}
+    'duplicate-name too-many-columns no-key bad-domain bad-header bad-record bad-number bad-utf8 bad-null null-cell'.split(), 1)}
 
 
 class Refusal(Exception):
@@ -46,12 +46,13 @@ class Reference(NamedTuple):
 
 
 class Literal(NamedTuple):
-    value: Union[int, bytes]
+    """A number, a text, or None where it is NULL, as a value may be."""
+    value: Union[None, int, bytes]
     at: int
 
 
 class Test(NamedTuple):
-    """A test of a column by a word: a comparison, BETWEEN, IN or LIKE."""
+    """A test of a column by a word: a comparison, BETWEEN, IN or LIKE, or IS, which is of NULL."""
     reference: Reference
     word: str
     literals: list
@@ -193,6 +194,10 @@ class Cursor:
         at = self.next.at
         return Literal(self.number(), at) if self.comes('-') else Literal(self.one_of('number', 'text').value, at)
 
+    def value(self) -> Literal:
+        at = self.next.at
+        return Literal(None, at) if self.maybe('NULL') else self.literal()
+
     # ---- conditions
 
     def where(self) -> object:
@@ -221,6 +226,10 @@ class Cursor:
             if not self.comes('BETWEEN', 'IN', 'LIKE'):
                 self.fail()
             return Not(self.test(reference))
+        if self.maybe('IS'):
+            is_contrary, test = self.maybe('NOT'), Test(reference, 'IS', [])
+            self.need('NULL')
+            return Not(test) if is_contrary else test
         if self.maybe('BETWEEN'):
             low = self.literal()
             self.need('AND')
@@ -275,7 +284,7 @@ class Cursor:
 
     def row(self) -> Row:
         at = self.next.at
-        return Row(self.enclosed(lambda: self.list_of(self.literal)), at)
+        return Row(self.enclosed(lambda: self.list_of(self.value)), at)
 
     def update(self) -> Update:
         table = self.name()
@@ -285,7 +294,7 @@ class Cursor:
     def place(self) -> tuple:
         name = self.name()
         self.need('=')
-        return name, self.literal()
+        return name, self.value()
 
     def delete(self) -> Delete:
         self.need('FROM')
@@ -301,9 +310,10 @@ class Cursor:
         name = self.name().text
         if not self.comes('INT', 'INTEGER', 'TEXT'):
             self.fail()
-        is_text, left, rules = self.take().value == 'TEXT', ['PRIMARY', 'NOT', 'CHECK'], []
+        is_text, left, rules = self.take().value == 'TEXT', ['PRIMARY', 'NULL', 'NOT', 'CHECK'], []
         while self.comes(*left):
-            left.remove(self.next.value)
+            gone = ('NULL', 'NOT') if self.comes('NULL', 'NOT') else (self.next.value,)
+            left = [word for word in left if word not in gone]
             rules.append(self.rule())
         return ColumnRules(name, is_text, rules)
 
@@ -312,6 +322,8 @@ class Cursor:
         word = self.take().value
         if word == 'CHECK':
             return (word, *self.enclosed(self.check))
+        if word == 'NULL':
+            return (word,)
         self.need('KEY' if word == 'PRIMARY' else 'NULL')
         return (word,)
 
@@ -329,6 +341,8 @@ def judge(create: Create) -> None:
         for _, name, low, high in [rule for rule in column.rules if rule[0] == 'CHECK']:
             if name != column.name or column.is_text or not LEAST_NUMBER <= low <= high <= MOST_NUMBER:
                 raise Refusal('bad-domain', 0)
+    if any(('PRIMARY',) in column.rules and ('NULL',) in column.rules for column in create.columns):
+        raise Refusal('bad-null', 0)
     if sum(('PRIMARY',) in column.rules for column in create.columns) != 1:
         raise Refusal('no-key', 0)
 

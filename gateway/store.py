@@ -80,8 +80,10 @@ def rect_sql(table, rect: tuple) -> str:
 
 
 def test_sql(column, test: bind.Test) -> str:
-    """A test by its values; texts by the ranges of bytes that it means."""
+    """A test by its values; texts by the ranges of bytes that it means. No column has NULL."""
     values = test.values
+    if test.word == 'IS':
+        return 'false'
     if not column.is_text:
         words = {'BETWEEN': ' AND '.join(map(literal, values)), 'IN': '(%s)' % ', '.join(map(literal, values))}
         return '%s %s %s' % (cell(column), test.word, words.get(test.word, literal(values[0])))

@@ -1,13 +1,33 @@
 """Sets of points of a table, as boxes that have no point in common: of each column a span from one value to below another."""
+import itertools
 import pathlib
 import sys
 
-sys.path.append(str(pathlib.Path(__file__).resolve().parent.parent / 'tests' / 'oracle'))
+TESTS = pathlib.Path(__file__).resolve().parent.parent / 'tests'
+sys.path += [str(TESTS / 'oracle'), str(TESTS / 'links')]
 
+from cells import NULL, Null
 from conditions import Both, Not
+from frames import NULL_SPAN
 
 # above each bound of texts, which has at most 121 bytes
 ABOVE_TEXTS = b'\xff' * 122
+
+
+class Behind(Null):
+    """Where a nullable column ends: behind NULL."""
+
+    def __gt__(self, other):
+        return other is not self
+
+    def __ge__(self, other):
+        return True
+
+    def __le__(self, other):
+        return other is self
+
+
+BEHIND_NULL = Behind()
 
 
 def has(boxes, row):
@@ -78,33 +98,42 @@ def are_same(some, others):
     return not without(some, others) and not without(others, some)
 
 
-# ---- the points of a table, and those that meet a condition
+# ---- the points of a table, and those for which a condition is true
 
 def domain_of(column):
-    return (b'', ABOVE_TEXTS) if column.is_text else (column.values[0], column.highest + 1)
+    low = b'' if column.is_text else column.values[0]
+    return low, BEHIND_NULL if column.is_nullable else end_of_values(column)
+
+
+def end_of_values(column):
+    """Where the values of a column end. NULL is next, where it may be."""
+    if column.is_nullable:
+        return NULL
+    return ABOVE_TEXTS if column.is_text else column.highest + 1
 
 
 def all_of(table):
     return tuple(map(domain_of, table.columns))
 
 
-def boxes_of(condition, table):
-    """The points of a table that meet a condition of tests/oracle, or all."""
+def boxes_of(condition, table, truth=True):
+    """The points of a table for which a condition of tests/oracle is true, or false; all where there is no condition."""
     if condition is None:
         return [all_of(table)]
     if isinstance(condition, Not):
-        return without([all_of(table)], boxes_of(condition.inner, table))
+        return boxes_of(condition.inner, table, not truth)
     if isinstance(condition, Both):
-        one, two = boxes_of(condition.one, table), boxes_of(condition.two, table)
-        return both(one, two) if condition.word == 'AND' else one + without(two, one)
-    return boxes_of_test(condition, table)
+        one, two = boxes_of(condition.one, table, truth), boxes_of(condition.two, table, truth)
+        return one + without(two, one) if (condition.word == 'OR') == truth else both(one, two)
+    return boxes_of_test(condition, table, truth)
 
 
-def boxes_of_test(test, table):
-    whole = all_of(table)
+def boxes_of_test(test, table, truth):
+    column, whole = table.columns[test.column], all_of(table)
     low, high = whole[test.column]
-    ends = sorted({low, high} | {end for end in test.ends if low < end < high})
-    spans = [span for span in zip(ends, ends[1:]) if test.holds({test.column: span[0]})]
+    inside = {end for end in test.ends if low < end and (column.is_text or end <= column.highest)}
+    ends = sorted(inside | {low, end_of_values(column), high})
+    spans = [span for span in zip(ends, ends[1:]) if test.holds({test.column: span[0]}) is truth]
     return [whole[:test.column] + (span,) + whole[test.column + 1:] for span in spans]
 
 
@@ -112,21 +141,34 @@ def boxes_of_test(test, table):
 
 def box_of(rect, table):
     """The box of a rect as frames have it: None for a whole column, both ends of numbers inside, and None for no upper end of texts."""
-    def span_of(span, domain):
+    def span_of(span, column):
         if span is None:
-            return domain
+            return domain_of(column)
+        if span == NULL_SPAN:
+            return NULL, BEHIND_NULL
         low, high = span
-        return (low, high + 1) if isinstance(low, int) else (low, ABOVE_TEXTS if high is None else high)
+        if high in (None, column.highest):
+            return low, end_of_values(column)
+        return low, high if column.is_text else high + 1
 
-    return tuple(map(span_of, rect, all_of(table)))
+    return tuple(map(span_of, rect, table.columns))
 
 
-def rect_of(box, table):
-    """The rect of a box."""
-    def span_of(span, domain):
+def rects_of(box, table):
+    """The rects of a box: several where a span goes from values on to NULL."""
+    def spans_of(span, column):
         low, high = span
-        if span == domain:
-            return None
-        return (low, high - 1) if isinstance(low, int) else (low, None if high == ABOVE_TEXTS else high)
+        if span == domain_of(column):
+            return [None]
+        nulls = [NULL_SPAN] * (high is BEHIND_NULL)
+        if low is NULL:
+            return nulls
+        is_open = nulls or high == end_of_values(column)
+        return [(low, column.highest if is_open else high if column.is_text else high - 1), *nulls]
 
-    return tuple(map(span_of, box, all_of(table)))
+    return list(itertools.product(*map(spans_of, box, table.columns)))
+
+
+def spelled(row):
+    """A row as frames have it."""
+    return row and tuple(None if cell is NULL else cell for cell in row)

@@ -20,10 +20,10 @@ import sys
 TESTS = pathlib.Path(__file__).resolve().parent.parent / 'tests'
 sys.path += [str(TESTS / 'oracle'), str(TESTS / 'links')]
 
-from boxes import are_same, box_of, rect_of
+from boxes import are_same, box_of, rects_of
 from compare import SPAN, value_of
 from counted import Fact
-from frames import Ask, Hello, Lapse, Notice, Part, Refused, Reply, Resume, Rows, Welcome, Write, Written, frame
+from frames import Ask, Hello, Lapse, NULL_SPAN, Notice, Part, Refused, Reply, Resume, Rows, Welcome, Write, Written, frame
 from lines import CREATE, split
 from played_client import Client
 from played_server import Server
@@ -108,7 +108,7 @@ class Play:
         """The boxes of the rects at the end of a line."""
         definition, boxes = self.tables[table], []
         for rect in RECT.findall(' '.join(words)):
-            spans = {name: (value_of(low), value_of(high) if high else None) for name, low, high in SPAN.findall(rect)}
+            spans = {name: NULL_SPAN if null else (value_of(low), value_of(high) if high else None) for name, null, low, high in SPAN.findall(rect)}
             boxes.append(box_of([spans.get(column.name) for column in definition.columns], definition))
         return boxes
 
@@ -133,7 +133,7 @@ class Play:
 
     def read_part(self, name, columns, *rects):
         table = self.number_of(name)
-        boxes = [rect_of(box, self.tables[table]) for box in self.points(table, rects)]
+        boxes = [rect for box in self.points(table, rects) for rect in rects_of(box, self.tables[table])]
         self.part_of.parts.append(Part(table, self.columns(table, columns), boxes))
 
     def read_answer(self, client, number, version, rows):

@@ -5,7 +5,7 @@ import sys
 
 sys.path.append(str(pathlib.Path(__file__).resolve().parent.parent / 'tests' / 'links'))
 
-from boxes import both, boxes_of, has, joined, rect_of, without
+from boxes import both, boxes_of, has, joined, rects_of, without
 from frames import Holding
 
 
@@ -66,7 +66,7 @@ class Client:
         self.regions[table, columns, self.stamp].add(boxes, keys)
 
     def holdings(self, tables):
-        return [Holding(table, [c for c in range(12) if columns >> c & 1], [rect_of(box, tables[table]) for box in region.boxes])
+        return [Holding(table, [c for c in range(12) if columns >> c & 1], [rect for box in region.boxes for rect in rects_of(box, tables[table])])
                 for (table, columns, _), region in sorted(self.regions.items(), key=lambda item: item[0])]
 
     def kept(self):

@@ -6,7 +6,7 @@ import sys
 TESTS = pathlib.Path(__file__).resolve().parent.parent / 'tests'
 sys.path += [str(TESTS / 'oracle'), str(TESTS / 'links')]
 
-from boxes import box_of, has, joined, without
+from boxes import box_of, has, joined, spelled, without
 from forgotten import last_dropped
 from frames import Hello, Lapse, Notice, Reply, Resume, Rows, Tell, Welcome, Write, Written
 
@@ -53,7 +53,7 @@ class Server:
         return fault
 
     def told(self, session, version):
-        return [Tell(table, key, after) for table, key, before, after in self.changes[version] if session.is_touched(table, before, after)]
+        return [Tell(table, key, spelled(after)) for table, key, before, after in self.changes[version] if session.is_touched(table, before, after)]
 
     def notices(self, session):
         told = [(version, self.told(session, version)) for version in range(session.upto + 1, self.version + 1)]
@@ -102,5 +102,5 @@ class Server:
         return self.due(session) + [Welcome(request.number, self.version, True)]
 
     def rows_of(self, number, place, part, boxes):
-        rows = [tuple(row[c] for c in part.columns) for row in self.rows[part.table].values() if has(boxes, row)]
+        rows = [spelled(row[c] for c in part.columns) for row in self.rows[part.table].values() if has(boxes, row)]
         return [Rows(number, place, rows[first:first + ROWS_OF_A_FRAME]) for first in range(0, len(rows), ROWS_OF_A_FRAME)]

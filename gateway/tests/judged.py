@@ -246,7 +246,8 @@ class Judge:
 # the words of the faults on the wire
 WORDS = dict(enumerate('long-text bad-token grammar deep unknown-table unknown-column ambiguous wrong-type out-of-domain not-key-join repeated '
                        'wrong-count mixed too-wide too-many-tables not-a-write not-a-query duplicate-key domain-cell long-cell key-change '
-                       'table-full too-many-changes duplicate-name too-many-columns no-key bad-domain'.split(), 1))
+                       'table-full too-many-changes duplicate-name too-many-columns no-key bad-domain bad-header bad-record bad-number bad-utf8 bad-null '
+                       'null-cell'.split(), 1))
 
 
 def results(program, cluster, seeds, clients=8, events=30):

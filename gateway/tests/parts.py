@@ -30,18 +30,21 @@ class Maker:
         return [make() for _ in range(self.random.randint(1, most))]
 
     def span(self):
-        kind = self.random.randrange(4)
-        if kind == 0:
-            return None
+        kind = self.random.randrange(5)
+        if kind in (0, 4):
+            return judge.NULL_SPAN if kind else None
         if kind == 1:
             return tuple(sorted([self.signed(), self.signed()]))
         low, high = self.random.choice([(b'', b'a'), (b'a', b'a\0'), (b'\xff', b'\xff' * 121)])
-        return (low, high) if kind == 2 else (high, None)
+        return (low, high) if kind == 2 else (self.random.choice([low, high]), None)
 
     def rects(self):
         return self.some(lambda: tuple(self.some(self.span, 12)), 3)
 
     def cell(self):
+        return self.random.choice([self.signed(), self.random.choice(TEXTS), None])
+
+    def key(self):
         return self.random.choice([self.signed(), self.random.choice(TEXTS)])
 
     def row(self):
@@ -67,10 +70,10 @@ class Maker:
             lambda: judge.Ask(number(), pick([True, False]), self.some(self.part, 4)),
             lambda: judge.Write(number(), pick(TEXTS)),
             lambda: judge.Welcome(number(), number(), pick([True, False])),
-            lambda: judge.Notice(number(), self.some(lambda: judge.Tell(pick([0, 255]), self.cell(), pick([None, self.row()])), 3)),
+            lambda: judge.Notice(number(), self.some(lambda: judge.Tell(pick([0, 255]), self.key(), pick([None, self.row()])), 3)),
             lambda: judge.Rows(number(), pick([0, 3]), self.some(self.row, 4)),
             lambda: judge.Reply(number(), number()), lambda: judge.Written(number(), number()),
-            lambda: judge.Refused(number(), pick([1, 31]), pick([0, 2 ** 32 - 1])), lambda: judge.Lapse(number())])()
+            lambda: judge.Refused(number(), pick([1, 33]), pick([0, 2 ** 32 - 1])), lambda: judge.Lapse(number())])()
 
 
 def ours(whole):

@@ -14,7 +14,7 @@ from judged import WORDS
 EXTRA = 'CREATE TABLE big (k INT PRIMARY KEY, v INT CHECK (v BETWEEN -5 AND 5), name TEXT)'
 SCHEMA = ''.join(line + '\n' for line in scripts.CREATES + [EXTRA])
 TOKENS = re.compile(r"'(?:''|[^'])*'|\w+|<=|>=|<>|!=|\s+|.", re.DOTALL)
-PIECES = ['(', ')', ',', ';', '.', '*', '-', '=', '<', '>=', '<>', '!=', 'NOT', 'not', 'AND', 'OR', 'IN', 'LIKE', 'BETWEEN', 'WHERE', 'SET', 'VALUES', 'FROM',
+PIECES = ['(', ')', ',', ';', '.', '*', '-', '=', '<', '>=', '<>', '!=', 'NOT', 'not', 'AND', 'OR', 'IN', 'IS', 'NULL', 'LIKE', 'BETWEEN', 'WHERE', 'SET', 'VALUES', 'FROM',
           'TABLE', 'x', 'reading', 'label', 'id', 'title', 'no', '0', '7', '123456789012345678', '1234567890123456789', '1099511627775', '1099511627776',
           "'a'", "'a%'", "'%'", "'_%'", "'", "''''", "'\u00e9'", '\u00e9', "'" + 'a' * 120 + "'", "'" + 'a' * 121 + "'",
           'a' * 64, 'a' * 65, '"', '#', ' ', '\t']
@@ -29,6 +29,9 @@ WHOLE = ['SELECT id FROM reading', 'SELECT * FROM reading JOIN shelf ON reading.
          "DELETE FROM label WHERE title LIKE 'a_%'", "DELETE FROM label WHERE no LIKE '1%'",
          'DELETE FROM big WHERE ' + 'NOT ' * 64 + 'k = 1', 'DELETE FROM big WHERE ' + 'NOT ' * 65 + 'k = 1', 'DELETE FROM big WHERE ' + '(' * 70 + 'k = 1',
          'INSERT INTO big VALUES ' + ', '.join("(%d, 0, '')" % k for k in range(4000)), 'UPDATE big SET v = 5', 'DELETE FROM big',
+         'INSERT INTO reading VALUES (5, NULL, 9)', 'INSERT INTO reading VALUES (NULL, 0, 9)', 'UPDATE reading SET level = NULL WHERE place = 1',
+         'DELETE FROM reading WHERE level IS NULL', 'UPDATE reading SET place = 0 WHERE NOT level IS NULL AND place IS NOT NULL', 'DELETE FROM reading WHERE level = NULL',
+         'CREATE TABLE z (a INT NULL PRIMARY KEY)', 'CREATE TABLE z (a INT PRIMARY KEY, t TEXT NOT NULL NULL)', 'CREATE TABLE z (a INT PRIMARY KEY, t TEXT NULL)',
          'UPDATE big SET v = 1 WHERE k = ' + '9' * 18, 'DELETE FROM big WHERE k > 1099511627775', "UPDATE big SET name = '%s'" % ('b' * 121)]
 MANY = ['INSERT INTO big VALUES ' + ', '.join("(%d, 0, '')" % k for k in range(first, first + 4000)) for first in range(0, 68000, 4000)]
 MANY += ['UPDATE big SET v = 5', 'UPDATE big SET v = 5 WHERE k < 9999', 'UPDATE big SET v = 5 WHERE k <= 20000', 'DELETE FROM big WHERE k >= 9999',

@@ -212,12 +212,14 @@ class Connection:
 
     def _rows(self, outputs):
         """The rows of the last answer, of columns of these kinds."""
-        if self._number('rows') == 0:
+        count = self._number('rows')
+        if count == 0:
             return []
         self._call('pack')
         data = self._bytes('text')
-        if not any(is_text for _, is_text in outputs):
-            form = struct.Struct('>I' + 'Bq' * len(outputs))
+        form = struct.Struct('>I' + 'Bq' * len(outputs))
+        # A NULL is shorter than a number.
+        if not any(is_text for _, is_text in outputs) and len(data) == count * form.size:
             return [row[2::2] for row in form.iter_unpack(data)]
         return list(unpacked(data))
 
@@ -308,6 +310,9 @@ def unpacked(data):
             if data[at] == 0:
                 row.append(struct.unpack_from('>q', data, at + 1)[0])
                 at += 9
+            elif data[at] == 2:
+                row.append(None)
+                at += 1
             else:
                 size, = struct.unpack_from('>I', data, at + 1)
                 row.append(data[at + 5:at + 5 + size].decode('utf-8'))

@@ -2,7 +2,7 @@
 
 WORDS = ('long-text bad-token grammar deep unknown-table unknown-column ambiguous wrong-type out-of-domain not-key-join repeated wrong-count '
          'mixed too-wide too-many-tables not-a-write not-a-query duplicate-key domain-cell long-cell key-change table-full too-many-changes '
-         'duplicate-name too-many-columns no-key bad-domain bad-header bad-record bad-number bad-utf8').split()
+         'duplicate-name too-many-columns no-key bad-domain bad-header bad-record bad-number bad-utf8 bad-null null-cell').split()
 
 
 class Warning(Exception):
@@ -45,7 +45,7 @@ class NotSupportedError(DatabaseError):
     pass
 
 
-OF_ROWS = {'duplicate-key': IntegrityError, 'key-change': IntegrityError, 'table-full': IntegrityError, 'domain-cell': DataError,
+OF_ROWS = {'duplicate-key': IntegrityError, 'null-cell': IntegrityError, 'key-change': IntegrityError, 'table-full': IntegrityError, 'domain-cell': DataError,
            'long-cell': DataError, 'out-of-domain': DataError, 'too-many-changes': OperationalError}
 
 

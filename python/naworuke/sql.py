@@ -16,7 +16,9 @@ def tokens(text):
 # ---- parameters
 
 def quoted(value):
-    """A number or a text as a literal. A quote in a text is doubled; all other characters stand for themselves."""
+    """A number, a text or None as SQL. A quote in a text is doubled; all other characters stand for themselves."""
+    if value is None:
+        return 'NULL'
     if isinstance(value, int):
         if len(str(abs(value))) > MOST_DIGITS:
             raise DataError('a number has at most %d digits' % MOST_DIGITS)
@@ -27,7 +29,7 @@ def quoted(value):
         except UnicodeEncodeError as fault:
             raise DataError('no UTF-8: %s' % fault) from fault
         return "'" + value.replace("'", "''") + "'"
-    raise InterfaceError('a parameter is an int or a str, not %s' % type(value).__name__)
+    raise InterfaceError('a parameter is an int, a str or None, not %s' % type(value).__name__)
 
 
 @functools.lru_cache(1000)

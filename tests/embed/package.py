@@ -2,7 +2,7 @@
 import naworuke
 from serving import Serving
 
-SCHEMA = 'CREATE TABLE sale (id INT PRIMARY KEY, amount INT, note TEXT)\nCREATE TABLE kind (code INT PRIMARY KEY, name TEXT)\n'
+SCHEMA = 'CREATE TABLE sale (id INT PRIMARY KEY, amount INT, note TEXT NULL)\nCREATE TABLE kind (code INT PRIMARY KEY, name TEXT)\n'
 ROWS = {'sale': 'id,amount,note\n1,100,one\n2,200,two\n3,300,three\n', 'kind': 'code,name\n100,low\n300,high\n'}
 STRANGE = ["it's", "''", '; DELETE FROM sale', 'a\nb', 'a\r\nb', '\0', '?', 'größe', '', "' OR '1' = '1", '\u2028', '-- x']
 
@@ -46,6 +46,9 @@ def writes(connection, server):
     for number, text in enumerate(STRANGE, 10):
         assert ask(connection, 'SELECT id, note FROM sale WHERE id = ?', [number]) == [(number, text)], text
         assert (number, text) in ask(connection, 'SELECT id, note FROM sale WHERE note = ?', [text]), text
+    cursor.execute('INSERT INTO sale VALUES (?, ?, ?)', [5, -500, None])
+    assert ask(connection, 'SELECT note FROM sale WHERE amount = ?', [-500]) == [(None,)]
+    assert ask(connection, 'SELECT id FROM sale WHERE note IS NULL') == [(5,)]
     connection.commit()
 
 
@@ -59,7 +62,9 @@ def refuses(connection, server):
     raised(naworuke.ProgrammingError, execute, 'SELECT id FROM sale WHERE id = ?', [1, 2])
     raised(naworuke.DataError, execute, 'SELECT id FROM sale WHERE id = ?', [10 ** 18])
     raised(naworuke.DataError, execute, 'SELECT id FROM sale WHERE note = ?', ['\ud800'])
-    for value in (None, 1.5, b'x', [1]):
+    assert raised(naworuke.IntegrityError, execute, 'UPDATE sale SET amount = ?', [None]) == 'null-cell 1'
+    assert raised(naworuke.ProgrammingError, execute, 'SELECT id FROM sale WHERE note = NULL') == 'grammar 33'
+    for value in (1.5, b'x', [1]):
         raised(naworuke.InterfaceError, execute, 'SELECT id FROM sale WHERE id = ?', [value])
     raised(naworuke.ProgrammingError, connection.cursor().fetchone)
     raised(naworuke.NotSupportedError, connection.rollback)

@@ -19,7 +19,9 @@ Reply = namedtuple('Reply', 'number version')
 Written = namedtuple('Written', 'number version')
 Refused = namedtuple('Refused', 'number why place')
 Lapse = namedtuple('Lapse', 'version')
-# in them: a rect is a span for each column, and a span None for all values, (lo, hi) of numbers or of texts, hi None where there is none
+# in them: a rect is a span for each column, and a span None for all values, (lo, hi) of numbers or of texts, hi None where there is none,
+# or NULL_SPAN; a cell that is NULL is None
+NULL_SPAN = 'null', 'null'
 Holding = namedtuple('Holding', 'table columns rects')
 Part = namedtuple('Part', 'table columns rects')
 Tell = namedtuple('Tell', 'table key after')
@@ -42,6 +44,8 @@ def text(value):
 def span_bytes(span):
     if span is None:
         return b'\x00'
+    if span == NULL_SPAN:
+        return b'\x04'
     lo, hi = span
     if isinstance(lo, int):
         return b'\x01' + number(lo, 8) + number(hi, 8)
@@ -53,6 +57,8 @@ def rects_bytes(rects):
 
 
 def cell_bytes(cell):
+    if cell is None:
+        return b'\x02'
     return b'\x00' + number(cell, 8) if isinstance(cell, int) else b'\x01' + text(cell)
 
 
@@ -140,9 +146,9 @@ class Fields:
     def signed(self):
         return int.from_bytes(self.take(8), 'big', signed=True)
 
-    def text(self, least=0):
+    def text(self):
         """A bound of texts."""
-        return self.take(self.number(1, least, 121))
+        return self.take(self.number(1, 0, 121))
 
     def utf8(self, size):
         place, value = self.at, self.take(size)
@@ -157,11 +163,11 @@ class Fields:
 
     def span(self):
         """Of two ends the second is at fault where it does not lie behind the first."""
-        kind = self.number(1, 0, 3)
-        if kind == 0:
-            return None
+        kind = self.number(1, 0, 4)
+        if kind in (0, 4):
+            return NULL_SPAN if kind else None
         if kind == 3:
-            return self.text(1), None
+            return self.text(), None
         end = self.signed if kind == 1 else self.text
         lo, place, hi = end(), self.at, end()
         if lo > hi or (kind == 2 and lo == hi):
@@ -174,8 +180,15 @@ class Fields:
     def rects(self):
         return self.many(4, 1, 16384, self.rect)
 
-    def cell(self):
-        return self.signed() if self.number(1, 0, 1) == 0 else self.utf8(self.number(1, 0, 120))
+    def cell(self, last=2):
+        kind = self.number(1, 0, last)
+        if kind == 2:
+            return None
+        return self.signed() if kind == 0 else self.utf8(self.number(1, 0, 120))
+
+    def key(self):
+        """A cell that is not NULL."""
+        return self.cell(1)
 
     def row(self):
         return tuple(self.many(1, 1, 12, self.cell))
@@ -191,7 +204,7 @@ class Fields:
         return Part(self.number(1), self.columns(), self.rects())
 
     def tell(self):
-        table, key = self.number(1), self.cell()
+        table, key = self.number(1), self.key()
         return Tell(table, key, self.row() if self.number(1, 0, 1) else None)
 
     def message(self, kind):
@@ -211,7 +224,7 @@ class Fields:
         if kind is Rows:
             return Rows(self.number(8), self.number(1, 0, 3), self.many(2, 1, 256, self.row))
         if kind is Refused:
-            return Refused(self.number(8), self.number(1, 1, 31), self.number(4))
+            return Refused(self.number(8), self.number(1, 1, 33), self.number(4))
         return kind(*[self.number(8) for _ in kind._fields])
 
 

@@ -105,13 +105,13 @@ BYTES = [
     (with_byte(-1, 2, Welcome(1, 4, True)), 'field 21'), (frame(Notice(6, []))[:-4] + number(10001, 4), 'field 13'),
     (frame(Rows(1, 4, [(1, 35)])), 'field 13'), (frame(Rows(1, 0, [])), 'field 14'), (frame(Rows(1, 0, [(1, 35)] * 257)), 'field 14'),
     (frame(Rows(1, 4, [])), 'field 13'), (frame(Rows(1, 0, [()])), 'field 16'), (frame(Rows(1, 0, [(1,) * 13])), 'field 16'),
-    (with_byte(17, 2, Rows(1, 0, [(1, 35)])), 'field 17'), (frame(Rows(1, 0, [(1, b'a' * 121)])), 'field 27'),
-    (frame(Rows(1, 0, [(1, b'a\xff')])), 'field 28'), (frame(Refused(1, 0, 0)), 'field 13'), (frame(Refused(1, 32, 0)), 'field 13'),
-    (with_byte(-1, 2, Notice(6, [Tell(0, 1, None)])), 'field 27'),
+    (with_byte(17, 3, Rows(1, 0, [(1, 35)])), 'field 17'), (frame(Rows(1, 0, [(1, b'a' * 121)])), 'field 27'),
+    (frame(Rows(1, 0, [(1, b'a\xff')])), 'field 28'), (frame(Refused(1, 0, 0)), 'field 13'), (frame(Refused(1, 34, 0)), 'field 13'),
+    (with_byte(-1, 2, Notice(6, [Tell(0, 1, None)])), 'field 27'), (frame(Notice(6, [Tell(0, None, None)])), 'field 18'),
     # of two ends the second, where it does not lie behind the first
     (asks(5, 4), 'field 32'), (asks(b'b', b'a'), 'field 26'), (asks(b'b', b'b'), 'field 26'), (asks(b'', b''), 'field 25'),
-    (asks(b'', None), 'field 24'), (asks(b'a' * 122, None), 'field 24'), (asks(b'a', b'b' * 122), 'field 26'),
-    (with_byte(23, 4, Ask(1, True, [Part(0, [0], [(None,)])])), 'field 23'),
+    (asks(b'a' * 122, None), 'field 24'), (asks(b'a', b'b' * 122), 'field 26'),
+    (with_byte(23, 5, Ask(1, True, [Part(0, [0], [(None,)])])), 'field 23'),
     # before all that can stand against a message
     (frame(Hello(0, 0)), 'field 6'), (frame(Hello(65, 0)), 'field 6'), (with_byte(5, 0, Hello(1, 0)), 'field 5'), (with_byte(5, 3, Hello(1, 0)), 'field 5'),
     (frame(Resume(1, 0, 0, [])), 'field 23'), (frame(Resume(1, 0, 0, [Holding(16, [0], [WHOLE])])), 'field 27'),

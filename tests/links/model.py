@@ -26,7 +26,7 @@ def fits(rect):
 def span_fits(span, domain):
     lo, hi = span
     if domain is None:
-        return isinstance(lo, bytes)
+        return isinstance(lo, bytes) and span != (b'', None)
     return isinstance(lo, int) and domain[0] <= lo and hi <= domain[1]
 
 

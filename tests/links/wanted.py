@@ -217,7 +217,7 @@ def bits(columns):
 
 
 def takes(column, cell):
-    return isinstance(cell, bytes) == column.is_text and column.has(cell)
+    return cell is not None and isinstance(cell, bytes) == column.is_text and column.fault(cell) is None
 
 
 def ascend(keys):

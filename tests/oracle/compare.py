@@ -3,8 +3,10 @@ import bisect
 import itertools
 import re
 
+from cells import NULL
+
 RECTS = re.compile(r'(\d+ (?:part|held|drop|probe|rest) .*?) (\{.*\})$')
-SPAN = re.compile(r"(\w+) (-?\d+|'(?:''|[^'])*'|x'[0-9a-f]*')\.\.(-?\d+|'(?:''|[^'])*'|x'[0-9a-f]*'|)(?:, (?=\w)|$)")
+SPAN = re.compile(r"(\w+) (?:(null)|(-?\d+|'(?:''|[^'])*'|x'[0-9a-f]*')\.\.(-?\d+|'(?:''|[^'])*'|x'[0-9a-f]*'|))(?:, (?=\w)|$)")
 
 
 def value_of(text):
@@ -28,7 +30,7 @@ def points_of(rects, table):
 
 def points_of_rect(inside, table):
     spans = SPAN.findall(inside)
-    named = {name: (low, high) for name, low, high in spans}
+    named = {name: [NULL] if null else (low, high) for name, null, low, high in spans}
     if SPAN.sub('', inside) or list(named) != [column.name for column in table.columns if column.name in named] or len(named) < len(spans):
         return None
     values = [values_of(column, named.get(column.name)) for column in table.columns]
@@ -36,15 +38,17 @@ def points_of_rect(inside, table):
 
 
 def values_of(column, span):
-    """The values of a span, or None where it begins or ends inside of what a value stands for, or has the whole column."""
+    """The values of a span, or None where it begins or ends inside of what a value stands for, or has the whole column, NULL where it may be."""
     if span is None:
         return column.values
+    if span == [NULL]:
+        return span if column.is_nullable else None
     if any((end[:1] in ("'", 'x')) != column.is_text for end in span if end):
         return None
     low, high = place_of(column, value_of(span[0])), place_of(column, end_of(column, span[1]))
     if low is None or high is None or not 0 < high - low < len(column.values):
         return None
-    return column.values[low:high]
+    return column.own[low:high]
 
 
 def end_of(column, high):
@@ -57,9 +61,9 @@ def end_of(column, high):
 def place_of(column, end):
     """Which of the column's values begins there; None where none does."""
     if end is None:
-        return len(column.values)
-    place = bisect.bisect_left(column.values, end)
-    return place if place < len(column.values) and column.values[place] == end else None
+        return len(column.own)
+    place = bisect.bisect_left(column.own, end)
+    return place if place < len(column.own) and column.own[place] == end else None
 
 
 def says(line, wanted, tables):

@@ -1,16 +1,25 @@
-"""Conditions: what they say, their text, and their width."""
+"""Conditions: what they say, their text, and their width.
+
+A condition is true, false or, as None, unknown.
+"""
 import operator
+
+from cells import NULL
 
 COMPARISONS = {'=': operator.eq, '<>': operator.ne, '<': operator.lt, '<=': operator.le, '>': operator.gt, '>=': operator.ge}
 
 
 def literal_of(value):
     """A cell as SQL writes it."""
+    if value is NULL:
+        return 'NULL'
     return "'%s'" % value.decode().replace("'", "''") if isinstance(value, bytes) else str(value)
 
 
 def shown(value):
     """A cell as a trace writes it."""
+    if value is NULL:
+        return 'null'
     if isinstance(value, bytes) and not all(32 <= byte <= 126 for byte in value):
         return "x'%s'" % value.hex()
     return literal_of(value)
@@ -27,14 +36,15 @@ def around(cells):
 
 
 class Test:
-    """A test of one column, with its width and that of its contrary, and the values at which it may begin or end to be true."""
+    """A test of one column, with its width and that of its contrary, and the values at which it may begin or end to be true. It says nothing
+    of NULL."""
 
     def __init__(self, column, text, widths, ends, is_true):
         self.column, self.columns, self.text, self.widths, self.ends = column, 1 << column, text, widths, ends
         self.is_true = is_true
 
     def holds(self, values):
-        return self.is_true(values[self.column])
+        return None if values[self.column] is NULL else self.is_true(values[self.column])
 
     def tests(self):
         return [self]
@@ -58,6 +68,17 @@ def one_of(column, name, cells):
     return Test(column, text, (len(cells), len(cells) + 1), around(cells), lambda value: value in few)
 
 
+class IsNull(Test):
+    """Whether a column has NULL, or has it not."""
+
+    def __init__(self, column, name, is_contrary=False):
+        super().__init__(column, '%s IS %sNULL' % (name, 'NOT ' * is_contrary), (1, 1), [], None)
+        self.is_contrary = is_contrary
+
+    def holds(self, values):
+        return (values[self.column] is NULL) != self.is_contrary
+
+
 def begins(column, name, prefix):
     ends = [prefix, after_prefix(prefix)] if prefix else [prefix]
     return Test(column, '%s LIKE %s' % (name, literal_of(prefix + b'%')), (1, 2), ends, lambda value: value.startswith(prefix))
@@ -72,8 +93,8 @@ class Both:
         self.text = '(%s) %s (%s)' % (one.text, word, two.text)
 
     def holds(self, values):
-        one, two = self.one.holds(values), self.two.holds(values)
-        return one and two if self.word == 'AND' else one or two
+        said, decides = (self.one.holds(values), self.two.holds(values)), self.word == 'OR'
+        return decides if decides in said else None if None in said else not decides
 
     def tests(self):
         return self.one.tests() + self.two.tests()
@@ -90,7 +111,8 @@ class Not:
         self.inner, self.columns, self.text = inner, inner.columns, 'NOT (%s)' % inner.text
 
     def holds(self, values):
-        return not self.inner.holds(values)
+        said = self.inner.holds(values)
+        return None if said is None else not said
 
     def tests(self):
         return self.inner.tests()

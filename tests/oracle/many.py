@@ -4,7 +4,7 @@ import collections
 from client import Limits
 from events import Asks, Evicts, Exec, Explains, Plain, Writes
 from queries import BadQuery, joined_query, query_of
-from scripts import LABEL, MUCH_LOG, Maker, READING, SHELF, Script, TABLES, TALLY
+from scripts import GUESS, LABEL, MUCH_LOG, Maker, READING, SHELF, Script, TALLY
 from statements import BadStatement, Delete, Insert
 from world import Options, World
 
@@ -16,6 +16,7 @@ LONG_TEXTS = [('x' * 65536, 'bad-token 0'), ('x' * 65537, 'long-text 65536')]
 # tables, each with the column of the one before it that equals its key
 CHAINS = [[(READING, None), (SHELF, 2)], [(READING, None), (SHELF, 0), (LABEL, 1)], [(SHELF, None), (LABEL, 1)],
           [(LABEL, None), (TALLY, 1)], [(READING, None), (SHELF, 2), (LABEL, 1), (TALLY, 1)]]
+NULL_CHAINS = [[(GUESS, None), (SHELF, 1)], [(GUESS, None), (SHELF, 1), (LABEL, 1)], [(SHELF, None), (LABEL, 1)]]
 
 # how often an event of each kind comes
 WEIGHTS = {'exec': 22, 'query': 26, 'explain': 5, 'push': 10, 'evict': 4, 'deliver': 34, 'settle': 6}
@@ -23,13 +24,14 @@ SESSION_WEIGHTS = {'write': 7, 'cut': 3, 'resume': 5}
 
 
 class ManyMaker(Maker):
-    """Makes scripts of a seed; with sessions they have writes, cuts and resumes too, and with joins queries of several tables.
+    """Makes scripts of a seed; with sessions they have writes, cuts and resumes too, with joins queries of several tables, and with nulls
+    nullable columns.
 
     The rules are played along, so that deliveries mostly go where a message waits.
     """
 
-    def __init__(self, seed, has_sessions=False, has_joins=False):
-        super().__init__('many %d' % seed)
+    def __init__(self, seed, has_sessions=False, has_joins=False, has_nulls=False):
+        super().__init__('many %d' % seed, has_nulls)
         self.weights = {**WEIGHTS, **SESSION_WEIGHTS} if has_sessions else WEIGHTS
         self.has_joins = has_joins
         self.world = None
@@ -43,12 +45,12 @@ class ManyMaker(Maker):
 
     def script(self):
         options = self.options()
-        self.world = World(TABLES, options)
+        self.world = World(self.tables, options)
         events = []
         for _ in range(self.random.randint(30, 90 + 15 * options.clients)):
             events.append(self.event())
             self.world.lines_of(events[-1])
-        return Script(options, events)
+        return Script(options, events, self.has_nulls)
 
     def event(self):
         kind = self.random.choices(list(self.weights), list(self.weights.values()))[0]
@@ -116,7 +118,7 @@ class ManyMaker(Maker):
     # ---- what they say
 
     def number(self):
-        return self.random.choices([READING, LABEL, SHELF, TALLY], [50, 25, 20, 4])[0]
+        return self.random.choices([GUESS if self.has_nulls else READING, LABEL, SHELF, TALLY], [50, 25, 20, 4])[0]
 
     def statement(self):
         kind, number = self.random.random(), self.number()
@@ -126,23 +128,23 @@ class ManyMaker(Maker):
             return self.long_insert()
         if kind < 0.45:
             return self.insert(number)
-        return self.update(number) if kind < 0.88 else Delete(TABLES, number, self.condition(number))
+        return self.update(number) if kind < 0.88 else Delete(self.tables, number, self.condition(number))
 
     def long_insert(self):
         """So many rows that an ask for them takes several messages."""
         rows = len(self.world.server.versions[-1][TALLY])
         keys = range(rows, min(rows + self.random.choice([200, 256, 300]), 600))
-        return Insert(TABLES, TALLY, [(key, self.random.randrange(2)) for key in keys] or [(600, 0)])
+        return Insert(self.tables, TALLY, [(key, self.random.randrange(2)) for key in keys] or [(600, 0)])
 
     def new_query(self, number):
         """Of the long table all rows are asked for, mostly."""
         if self.has_joins and self.random.random() < 0.5:
             return self.join()
         whole = number == TALLY and self.random.random() < 0.7
-        return query_of(TABLES, TALLY, [0], None) if whole else self.query(number)
+        return query_of(self.tables, TALLY, [0], None) if whole else self.query(number)
 
     def join(self):
-        chain = self.random.choice(CHAINS)
+        chain = self.random.choice(NULL_CHAINS if self.has_nulls else CHAINS)
         outputs = [(part, self.random.randrange(2)) for part in self.random.choices(range(len(chain)), k=self.random.randint(1, 3))]
         conditions = [self.condition(table, 1) if self.random.random() < 0.6 else None for table, _ in chain]
-        return joined_query(TABLES, chain, conditions, outputs)
+        return joined_query(self.tables, chain, conditions, outputs)

@@ -2,7 +2,8 @@
 import functools
 import re
 
-from conditions import Both, COMPARISONS, Not, begins, between, compares, one_of
+from cells import NULL
+from conditions import Both, COMPARISONS, IsNull, Not, begins, between, compares, one_of
 from events import Asks, Evicts, Exec, Explains, PLAIN, Plain, Writes
 from lines import CREATE, is_silent, split
 from queries import Part, Query, bits
@@ -74,15 +75,18 @@ class Reader:
         return Table(name, [column for column, _ in columns], [is_key for _, is_key in columns].index(True))
 
     def created(self):
-        name, kind, is_key, domain = self.next(), self.next(), False, (FIRST_NUMBER, LAST_NUMBER)
+        name, kind, is_key, is_nullable, domain = self.next(), self.next(), False, False, (FIRST_NUMBER, LAST_NUMBER)
         while self.tokens[0] not in (',', ')'):
             if self.skip('primary', 'key'):
                 is_key = True
+            elif self.skip('null'):
+                is_nullable = True
             elif not self.skip('not', 'null'):
                 self.need('check', '(', name, 'between')
                 domain = self.range()
                 self.need(')')
-        return Column(name, [b'']) if kind == 'text' else Column(name, [domain[0]], domain[1]), is_key
+        values, highest = ([b''], None) if kind == 'text' else ([domain[0]], domain[1])
+        return Column(name, values, highest, is_nullable), is_key
 
     def range(self):
         low = self.literal()
@@ -131,6 +135,9 @@ class Reader:
             raise Unread(literal)
         return literal
 
+    def cell_for(self, column):
+        return NULL if self.skip('null') else self.literal_for(column)
+
     # ---- conditions
 
     def where(self):
@@ -156,10 +163,18 @@ class Reader:
             return condition
         part, c = self.column()
         column = self.tables[self.scope[part]].columns[c]
+        if self.skip('is'):
+            return self.null_test(part, c, column)
         is_contrary = self.skip('not')
         test = self.test(c, column)
         test.part = part
         return Not(test) if is_contrary else test
+
+    def null_test(self, part, c, column):
+        test = IsNull(c, column.name, self.skip('not'))
+        self.need('null')
+        test.part = part
+        return test
 
     def test(self, c, column):
         if self.skip('between'):
@@ -247,7 +262,7 @@ class Reader:
         for n, c in enumerate(order):
             if n:
                 self.need(',')
-            cells[c] = self.literal_for(self.tables[self.scope[0]].columns[c])
+            cells[c] = self.cell_for(self.tables[self.scope[0]].columns[c])
         self.need(')')
         return tuple(cells[c] for c in sorted(cells))
 
@@ -262,7 +277,7 @@ class Reader:
         self.need('=')
         if c == table.key:
             raise Unread('the key is set')
-        return c, self.literal_for(table.columns[c])
+        return c, self.cell_for(table.columns[c])
 
 
 def conjuncts(condition):
@@ -318,4 +333,4 @@ def divide(queries):
         for part in query.parts:
             for test in part.tests():
                 column = part.definition.columns[test.column]
-                column.values = sorted(set(column.values) | {end for end in test.ends if column.has(end)})
+                column.divide(sorted(set(column.own) | {end for end in test.ends if column.fault(end) is None}))

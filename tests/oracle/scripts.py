@@ -2,8 +2,9 @@
 import collections
 import random
 
+from cells import NULL
 from client import Limits
-from conditions import Both, COMPARISONS, Not, after_prefix, begins, between, compares, one_of
+from conditions import Both, COMPARISONS, IsNull, Not, after_prefix, begins, between, compares, one_of
 from events import Asks, Exec, Explains, Plain
 from queries import query_of
 from statements import Delete, Insert, Update
@@ -21,8 +22,8 @@ def text_values():
     return sorted(ends)
 
 
-def numbers(name, first, last):
-    return Column(name, range(first, last + 1), last)
+def numbers(name, first, last, is_nullable=False):
+    return Column(name, range(first, last + 1), last, is_nullable)
 
 
 TABLES = [
@@ -43,30 +44,51 @@ CREATES = [
     'CREATE TABLE shelf (code INT PRIMARY KEY CHECK (code BETWEEN 0 AND 7), room INT CHECK (room BETWEEN 10 AND 15))',
 ]
 
-# a script over these tables: its options, and its events
-Script = collections.namedtuple('Script', 'options events')
+# the same, and one with nullable columns
+NULL_TABLES = TABLES + [Table('guess', [numbers('id', 0, 7), numbers('seat', 0, 5, True), Column('word', text_values(), None, True)], 0)]
+GUESS = len(TABLES)
+NULL_CREATES = CREATES + ['CREATE TABLE guess (id INT PRIMARY KEY CHECK (id BETWEEN 0 AND 7), seat INT NULL CHECK (seat BETWEEN 0 AND 5), word TEXT NULL)']
+
+# a script: its options, its events, and whether it is over the tables with nullable columns too
+Script = collections.namedtuple('Script', 'options events has_nulls', defaults=[False])
 MUCH_LOG = 100000
 
 
+def tables_of(script):
+    return NULL_TABLES if script.has_nulls else TABLES
+
+
+def creates_of(script):
+    return NULL_CREATES if script.has_nulls else CREATES
+
+
 def lines_of(script):
-    return CREATES + [event.line() for event in script.events]
+    return creates_of(script) + [event.line() for event in script.events]
 
 
 class Maker:
-    """Makes scripts of a seed."""
+    """Makes scripts of a seed; with nulls they are about nullable columns, mostly."""
 
-    def __init__(self, seed):
-        self.random = random.Random(seed)
+    def __init__(self, seed, has_nulls=False):
+        self.random = random.Random('nulls %s' % seed if has_nulls else seed)
+        self.has_nulls, self.tables = has_nulls, NULL_TABLES if has_nulls else TABLES
 
     def cell(self, column):
         if column.is_text:
             return self.random.choice(TEXTS).encode()
         slip = self.random.random() < 0.04
-        return column.values[-1] + 1 if slip else self.random.choice(column.values)
+        return column.own[-1] + 1 if slip else self.random.choice(column.own)
+
+    def stored(self, column):
+        """A cell of a row; at times NULL, and rarely where it may not be."""
+        is_null = self.has_nulls and self.random.random() < (0.3 if column.is_nullable else 0.02)
+        return NULL if is_null else self.cell(column)
 
     def test(self, number):
-        c = self.random.randrange(len(TABLES[number].columns))
-        column = TABLES[number].columns[c]
+        c = self.random.randrange(len(self.tables[number].columns))
+        column = self.tables[number].columns[c]
+        if self.has_nulls and self.random.random() < 0.2:
+            return IsNull(c, column.name, self.random.random() < 0.5)
         kind = self.random.choice(['word', 'word', 'between', 'in', 'like'])
         if kind == 'like' and column.is_text:
             return begins(c, column.name, self.random.choice([text for text in TEXTS if text]).encode())
@@ -90,27 +112,27 @@ class Maker:
         return self.condition(number) if self.random.random() < 0.85 else None
 
     def insert(self, number):
-        return Insert(TABLES, number, [tuple(map(self.cell, TABLES[number].columns)) for _ in range(self.random.randint(1, 3))])
+        return Insert(self.tables, number, [tuple(map(self.stored, self.tables[number].columns)) for _ in range(self.random.randint(1, 3))])
 
     def update(self, number):
-        columns = TABLES[number].columns
-        c = self.random.choice([c for c in range(len(columns)) if c != TABLES[number].key])
-        return Update(TABLES, number, [(c, self.cell(columns[c]))], self.maybe_condition(number))
+        columns = self.tables[number].columns
+        c = self.random.choice([c for c in range(len(columns)) if c != self.tables[number].key])
+        return Update(self.tables, number, [(c, self.stored(columns[c]))], self.maybe_condition(number))
 
     def query(self, number):
-        columns = TABLES[number].columns
+        columns = self.tables[number].columns
         outputs = [self.random.randrange(len(columns)) for _ in range(self.random.randint(1, len(columns)))]
-        return query_of(TABLES, number, outputs, self.maybe_condition(number))
+        return query_of(self.tables, number, outputs, self.maybe_condition(number))
 
     def event(self):
         kind = self.random.random()
-        number = self.random.choice([0, 0, 1])
+        number = self.random.choice([GUESS, GUESS, LABEL] if self.has_nulls else [READING, READING, LABEL])
         if kind < 0.15:
             return Exec(self.insert(number))
         if kind < 0.3:
             return Exec(self.update(number))
         if kind < 0.35:
-            return Exec(Delete(TABLES, number, self.condition(number)))
+            return Exec(Delete(self.tables, number, self.condition(number)))
         if kind < 0.5:
             return Plain('push', 1)
         return Explains(1, self.query(number)) if kind < 0.55 else Asks(1, self.query(number))
@@ -118,7 +140,7 @@ class Maker:
     def script(self):
         choose = self.random.choice
         limits = Limits(choose([10000, 0, 3, 6, 12]), choose([64, 0, 1, 3, 6]), choose(['recency', 'distance']))
-        return Script(Options(1, MUCH_LOG, limits, True), [self.event() for _ in range(self.random.randint(10, 60))])
+        return Script(Options(1, MUCH_LOG, limits, True), [self.event() for _ in range(self.random.randint(10, 60))], self.has_nulls)
 
     def lists(self):
         """Four queries of 64 values of y each, and one of 64 of x among them or behind, no two values side by side: they cut the board into

@@ -17,8 +17,9 @@ class Insert:
         """Changes these rows by their keys, or tells the fault."""
         for n, row in enumerate(self.rows):
             for c, cell in enumerate(row):
-                if not self.definition.columns[c].has(cell):
-                    return 'domain-cell %d' % c
+                fault = self.definition.columns[c].fault(cell)
+                if fault:
+                    return '%s %d' % (fault, c)
             if row[self.definition.key] in rows:
                 return 'duplicate-key %d' % n
             rows[row[self.definition.key]] = row
@@ -37,9 +38,10 @@ class Update:
         return 'UPDATE %s SET %s%s' % (self.definition.name, said, where(self.condition))
 
     def carry_out(self, rows):
-        bad = [c for c, cell in self.cells if not self.definition.columns[c].has(cell)]
-        if bad:
-            return 'domain-cell %d' % bad[0]
+        for c, cell in self.cells:
+            fault = self.definition.columns[c].fault(cell)
+            if fault:
+                return '%s %d' % (fault, c)
         for key, row in rows.items():
             if self.condition is None or self.condition.holds(row):
                 new = dict(self.cells)

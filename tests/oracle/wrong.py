@@ -2,6 +2,7 @@
 import copy
 
 from client import Client
+from conditions import Both, Not
 from messages import Hello, Lapse, Notice, Welcome
 from server import Server
 from world import World
@@ -303,6 +304,22 @@ class TellsFiveBytes(TellsThreeBytes):
     bytes_told = 5
 
 
+def counting(table):
+    """The table, whose NULL counts as the last value."""
+    counted = copy.copy(table)
+    counted.columns = [copy.copy(column) for column in table.columns]
+    for column in counted.columns:
+        column.null_counts_as = -1
+    return counted
+
+
+class CountsNullLast(Client):
+    """NULL counts as the last value of its column in a distance."""
+
+    def __init__(self, number, tables, limits, versions):
+        super().__init__(number, [counting(table) for table in tables], limits, versions)
+
+
 class SaysHello(Client):
     """A resume always begins with nothing."""
 
@@ -330,6 +347,40 @@ class SettlesAll(World):
         self.trace.say('settle %d %d' % (n, count))
 
 
+# ---- of conditions
+
+class KeepsUnknown(Not):
+    """The contrary of what is unknown is true."""
+
+    def holds(self, values):
+        return not self.inner.holds(values)
+
+
+def loose(condition):
+    """The condition, where NOT keeps what is unknown."""
+    if isinstance(condition, Not):
+        return KeepsUnknown(loose(condition.inner))
+    return Both(condition.word, loose(condition.one), loose(condition.two)) if isinstance(condition, Both) else condition
+
+
+def loose_part(part):
+    loosened = copy.copy(part)
+    loosened.__dict__.pop('points', None)
+    loosened.condition = loose(part.condition)
+    return loosened
+
+
+class KeepsNullUnderNot(World):
+    """NOT keeps the rows for which a condition of a query is unknown."""
+
+    def lines_of(self, event, told=()):
+        loosened = copy.copy(event)
+        if hasattr(event, 'query'):
+            loosened.query = copy.copy(event.query)
+            loosened.query.parts = list(map(loose_part, event.query.parts))
+        return super().lines_of(loosened, told)
+
+
 SERVERS = {'lapse_keeps_the_subscription': LapseKeepsSubscription, 'notices_leave_out_the_newest': LeavesOutNewest,
            'push_reaches_nothing': PushReachesNothing, 'no_empty_notice': NeverCloses, 'fresh_ask_adds': FreshAskAdds,
            'fresh_ask_brings_notices': FreshAskBringsNotices, 'empty_subscription_lapses': LosesEmpty,
@@ -347,8 +398,8 @@ CLIENTS = {'second_ask_asks_the_old_rest': AsksTheOldRest, 'notice_applied_at_on
            'numbers_down_queries': NumbersDownQueries, 'says_hello': SaysHello,
            'drops_though_covered': DropsThoughCovered, 'drops_though_down': DropsThoughDown,
            'explains_drops_though_covered': ExplainsDropsThoughCovered, 'distance_of_three_bytes': TellsThreeBytes,
-           'distance_of_five_bytes': TellsFiveBytes}
-WORLDS = {'delivers_to_the_client_first': DeliversToClientFirst, 'settles_all': SettlesAll}
+           'distance_of_five_bytes': TellsFiveBytes, 'null_counts_as_the_last': CountsNullLast}
+WORLDS = {'delivers_to_the_client_first': DeliversToClientFirst, 'settles_all': SettlesAll, 'not_keeps_null': KeepsNullUnderNot}
 
 RULES = [*SERVERS, *CLIENTS, *WORLDS]
 
@@ -356,6 +407,7 @@ RULES = [*SERVERS, *CLIENTS, *WORLDS]
 KINDS = {
     'sessions': {'welcomes_all', 'refused_write_stays', 'cut_forgets', 'down_though_covered', 'numbers_down_queries', 'says_hello'},
     'joins': {'asks_covered_parts'},
+    'nulls': {'null_counts_as_the_last', 'not_keeps_null'},
     'crowded': {'drops_though_covered', 'drops_though_down', 'explains_drops_though_covered'},
     'worded': {'distance_of_three_bytes', 'distance_of_five_bytes'},
 }

@@ -1,6 +1,6 @@
 -- No tally counts more rows than there are.
-use Rattle.std.proofs.Common.{◌≡◌, ℕ, zero, suc, ◌<◌, ◌≤◌, ◌^◌, Bool, true, false, List, [], ◌∷◌, length, take, map, refl, sym, ap, subst, ◌∙◌, arith}
-use Rattle.std.specs.Prelude.{Some, filter}
+use Rattle.std.proofs.Common.{◌≡◌, ℕ, zero, suc, ◌<◌, ◌≤◌, ◌^◌, Bool, true, false, List, [], ◌∷◌, length, map, refl, sym, ap, subst, ◌∙◌, arith}
+use Rattle.std.specs.Prelude.{Option, Some, filter}
 use Rattle.std.specs.Global.{Vec}
 use Rattle.std.specs.declared.cmp.Ordering.{Ordering}
 use Rattle.std.specs.declared.cmp.Ordering.TheVariants.{Less, Equal, Greater}
@@ -13,7 +13,7 @@ use Rattle.sr_cell.specs.declared.cell.Cell.{Cell}
 use Rattle.sr_cell.specs.Cells.{Row}
 use Rattle.sr_agg.specs.declared.item.Item.{Item}
 use Rattle.sr_agg.specs.declared.tally.Tally.{Tally}
-use Rattle.sr_agg.specs.Groups.{group_keys, key_order, rows_with}
+use Rattle.sr_agg.specs.Groups.{Key, group_keys, group_of, key_order, rows_with}
 use Rattle.sr_agg.specs.Kept.{entries_seen}
 use Rattle.sr_agg.specs.Tallies.{first_tally, grouped, tally_of, IsFew}
 use Rattle.sr_agg.proofs.Order.{order}
@@ -39,12 +39,12 @@ first-few [] k d h = absurd (omega (arith, h))
 first-few (item ∷ some) zero d h = let a = tally-few [] item in omega (arith, a)
 first-few (item ∷ some) (suc k) d h = first-few some k d (omega (arith, h))
 
-found-few : (g : ℕ) (some : List Item) (rows : List Row) (own : Row) (ks : List Row) (ts : List Tally) → length rows < 2 ^ 63
+found-few : (g : ℕ) (some : List Item) (rows : List Row) (own : Key) (ks : List Key) (ts : List Tally) → length rows < 2 ^ 63
     → lookup (at own) (map (λ key. (key, map (tally_of (rows_with g key rows)) some)) ks) ≡ Some ts → All IsFew ts
 found-few g some rows own [] ts few h = absurd cc
 found-few g some rows own (k ∷ ks) ts few h = by (key_order own k) refl h (found-few g some rows own ks ts few)
   where
-    rest : List (Row × List Tally)
+    rest : List (Key × List Tally)
     rest = map (λ key. (key, map (tally_of (rows_with g key rows)) some)) ks
 
     by : (p : Ordering) → key_order own k ≡ p → lookup (at own) (map (λ key. (key, map (tally_of (rows_with g key rows)) some)) (k ∷ ks)) ≡ Some ts
@@ -53,12 +53,12 @@ found-few g some rows own (k ∷ ks) ts few h = by (key_order own k) refl h (fou
     by Equal e h ih =
         let there : Some (map (tally_of (rows_with g k rows)) some) ≡ Some ts = rw e at h in
         let same : map (tally_of (rows_with g k rows)) some ≡ ts = cc in
-        let less = few-of (λ (row : Row). is_eq (key_order k (take g row))) rows in
+        let less = few-of (λ (row : Row). is_eq (key_order k (group_of g row))) rows in
         subst (All IsFew) same (tallies-few (rows_with g k rows) some (omega (arith, less, few)))
     by Greater e h ih = ih (rw e at h)
 
 -- a group that a map has
-pub kept-few : (g : ℕ) (some : List Item) (rows : List Row) (own : Row) (es : List (Vec Cell × Vec Tally)) (ts : Vec Tally) → entries_seen es ≡ grouped g some rows → length rows < 2 ^ 63
+pub kept-few : (g : ℕ) (some : List Item) (rows : List Row) (own : Key) (es : List (Vec (Option Cell) × Vec Tally)) (ts : Vec Tally) → entries_seen es ≡ grouped g some rows → length rows < 2 ^ 63
     → lookup (λ l. is_eq (slice_cmp order own l.items)) es ≡ Some ts → All IsFew ts.items
 kept-few g some rows own es ts is few found =
     found-few g some rows own (group_keys g rows) ts.items few

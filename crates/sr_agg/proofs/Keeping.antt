@@ -1,6 +1,6 @@
 -- A row more in the groups that a map keeps.
-use Rattle.std.proofs.Common.{◌≡◌, ℕ, Bool, true, false, ◌||◌, List, [], ◌∷◌, ◌++◌, take, map, fold, refl, sym, ap, subst, ◌∙◌, arith}
-use Rattle.std.specs.Prelude.{Some, None, if◌then◌else◌, filter, is_some, OnOk, Result, Ok, Err}
+use Rattle.std.proofs.Common.{◌≡◌, ℕ, Bool, true, false, ◌||◌, List, [], ◌∷◌, ◌++◌, map, fold, refl, sym, ap, subst, ◌∙◌, arith}
+use Rattle.std.specs.Prelude.{Option, Some, None, if◌then◌else◌, filter, is_some, OnOk, Result, Ok, Err}
 use Rattle.std.specs.Global.{Vec}
 use Rattle.std.specs.declared.cmp.Ordering.{Ordering}
 use Rattle.std.specs.declared.cmp.Ordering.TheVariants.{Less, Equal, Greater}
@@ -18,16 +18,16 @@ use Rattle.sr_cell.specs.declared.cell.Cell.{Cell}
 use Rattle.sr_cell.specs.Cells.{Row}
 use Rattle.sr_agg.specs.declared.item.Item.{Item}
 use Rattle.sr_agg.specs.declared.tally.Tally.{Tally}
-use Rattle.sr_agg.specs.Groups.{first_keys, group_keys, key_order, rows_with}
+use Rattle.sr_agg.specs.Groups.{Key, first_keys, group_keys, group_of, key_order, rows_with}
 use Rattle.sr_agg.specs.Kept.{entry_seen, entries_seen}
 use Rattle.sr_agg.specs.Tallies.{first_tally, with_row, tally_of, grouped}
 use Rattle.sr_agg.proofs.Order.{order, keys-same, key-total, key-exact, level, below, alike}
 
-abbrev pub vec_order : Vec Cell → Vec Cell → Ordering
+abbrev pub vec_order : Vec (Option Cell) → Vec (Option Cell) → Ordering
 vec_order k l = slice_cmp order k.items l.items
 
 -- whether a key is this one
-abbrev pub at : Row → Row → Bool
+abbrev pub at : Key → Key → Bool
 at k l = is_eq (key_order k l)
 
 pub on-ok : {A E P Q : Type 0} (r : Result A E) → OnOk r P → (P → Q) → OnOk r Q
@@ -58,20 +58,20 @@ filter-push {A = A} test (y ∷ xs) x = by (test y) refl (test x) refl (filter-p
 -- ---- the keys of entries
 
 -- each key is below those behind it
-abbrev pub Ascends : List Row → Type 0
+abbrev pub Ascends : List Key → Type 0
 Ascends [] = Unit {0}
 Ascends (k ∷ ks) = AllByRecursion (λ l. key_order k l ≡ Less) ks × Ascends ks
 
-below-seen : (k : Vec Cell) (es : List (Vec Cell × Vec Tally)) → AllByRecursion (λ l. vec_order k l ≡ Less) (keys_of es)
+below-seen : (k : Vec (Option Cell)) (es : List (Vec (Option Cell) × Vec Tally)) → AllByRecursion (λ l. vec_order k l ≡ Less) (keys_of es)
     → AllByRecursion (λ l. key_order k.items l ≡ Less) (keys_of (entries_seen es))
 below-seen k [] h = tt
 below-seen k (e ∷ es) h = (sym (keys-same k.items e.0.items) ∙ h.0, below-seen k es h.1)
 
-pub ascends-seen : (es : List (Vec Cell × Vec Tally)) → IsStrictlySortedBy vec_order (keys_of es) → Ascends (keys_of (entries_seen es))
+pub ascends-seen : (es : List (Vec (Option Cell) × Vec Tally)) → IsStrictlySortedBy vec_order (keys_of es) → Ascends (keys_of (entries_seen es))
 ascends-seen [] s = tt
 ascends-seen (e ∷ es) s = (below-seen e.0 es (sorted_head vec_order e.0 (keys_of es) s), ascends-seen es (sorted_tail vec_order e.0 (keys_of es) s))
 
-pub lookup-seen : (k : Row) (es : List (Vec Cell × Vec Tally)) → option_map (λ (v : Vec Tally). v.items) (lookup (λ l. is_eq (slice_cmp order k l.items)) es) ≡ lookup (at k) (entries_seen es)
+pub lookup-seen : (k : Key) (es : List (Vec (Option Cell) × Vec Tally)) → option_map (λ (v : Vec Tally). v.items) (lookup (λ l. is_eq (slice_cmp order k l.items)) es) ≡ lookup (at k) (entries_seen es)
 lookup-seen k [] = refl
 lookup-seen k (e ∷ es) = by (key_order k e.0.items) refl (lookup-seen k es)
   where
@@ -81,7 +81,7 @@ lookup-seen k (e ∷ es) = by (key_order k e.0.items) refl (lookup-seen k es)
     by Equal q ih = rw (keys-same k e.0.items, q) refl
     by Greater q ih = rw (keys-same k e.0.items, q) ih
 
-pub set-seen : (k : Row) (es : List (Vec Cell × Vec Tally)) (w : Vec Tally) → entries_seen (set_value (λ l. is_eq (slice_cmp order k l.items)) es w) ≡ set_value (at k) (entries_seen es) w.items
+pub set-seen : (k : Key) (es : List (Vec (Option Cell) × Vec Tally)) (w : Vec Tally) → entries_seen (set_value (λ l. is_eq (slice_cmp order k l.items)) es w) ≡ set_value (at k) (entries_seen es) w.items
 set-seen k [] w = refl
 set-seen k (e ∷ es) w = by (key_order k e.0.items) refl (set-seen k es w)
   where
@@ -91,7 +91,7 @@ set-seen k (e ∷ es) w = by (key_order k e.0.items) refl (set-seen k es w)
     by Equal q ih = rw (keys-same k e.0.items, q) refl
     by Greater q ih = rw (keys-same k e.0.items, q) (ap (λ zs. entry_seen e ∷ zs) ih)
 
-pub insert-seen : (k : Vec Cell) (es : List (Vec Cell × Vec Tally)) (w : Vec Tally) → entries_seen (insert_entry vec_order es k w) ≡ insert_entry key_order (entries_seen es) k.items w.items
+pub insert-seen : (k : Vec (Option Cell)) (es : List (Vec (Option Cell) × Vec Tally)) (w : Vec Tally) → entries_seen (insert_entry vec_order es k w) ≡ insert_entry key_order (entries_seen es) k.items w.items
 insert-seen k [] w = refl
 insert-seen k (e ∷ es) w = by (key_order k.items e.0.items) refl (insert-seen k es w)
   where
@@ -103,7 +103,7 @@ insert-seen k (e ∷ es) w = by (key_order k.items e.0.items) refl (insert-seen 
 
 -- ---- a row more
 
-not-at : (k l : Row) → at k l ≡ false → at l k ≡ false
+not-at : (k l : Key) → at k l ≡ false → at l k ≡ false
 not-at k l h = by (key_order l k) refl
   where
     by : (p : Ordering) → key_order l k ≡ p → is_eq (key_order l k) ≡ false
@@ -112,26 +112,26 @@ not-at k l h = by (key_order l k) refl
     by Greater e = rw e refl
 
 module _ (g : ℕ) (items : List Item) (rows : List Row) (row : Row) where
-  abbrev own : Row
-  own = take g row
+  abbrev own : Key
+  own = group_of g row
 
-  abbrev entry : List Row → Row → Row × List Tally
+  abbrev entry : List Row → Key → Key × List Tally
   entry rows key = (key, map (tally_of (rows_with g key rows)) items)
 
   abbrev after : List Row
   after = rows ++ row ∷ []
 
   -- the keys of entries are those of the groups
-  pub keys-entries : (ks : List Row) → keys_of (map (entry rows) ks) ≡ ks
+  pub keys-entries : (ks : List Key) → keys_of (map (entry rows) ks) ≡ ks
   keys-entries [] = refl
   keys-entries (k ∷ ks) = ap (λ zs. k ∷ zs) (keys-entries ks)
 
-  other : (key : Row) → at key own ≡ false → entry after key ≡ entry rows key
+  other : (key : Key) → at key own ≡ false → entry after key ≡ entry rows key
   other key h =
-      let k : rows_with g key after ≡ rows_with g key rows = filter-push (λ (r : Row). at key (take g r)) rows row ∙ rw h refl in
+      let k : rows_with g key after ≡ rows_with g key rows = filter-push (λ (r : Row). at key (group_of g r)) rows row ∙ rw h refl in
       ap (λ rs. (key, map (tally_of rs) items)) k
 
-  others : (ks : List Row) → list_any (at own) ks ≡ false → map (entry after) ks ≡ map (entry rows) ks
+  others : (ks : List Key) → list_any (at own) ks ≡ false → map (entry after) ks ≡ map (entry rows) ks
   others [] h = refl
   others (k ∷ ks) h =
       let a : at own k ≡ false = grind arith in
@@ -147,19 +147,19 @@ module _ (g : ℕ) (items : List Item) (rows : List Row) (row : Row) where
       let f = with-each rs some in
       rw (e, f) refl
 
-  mine : (key : Row) → at key own ≡ true → entry after key ≡ (key, map (λ tally. with_row tally row) (map (tally_of (rows_with g key rows)) items))
+  mine : (key : Key) → at key own ≡ true → entry after key ≡ (key, map (λ tally. with_row tally row) (map (tally_of (rows_with g key rows)) items))
   mine key h =
-      let k : rows_with g key after ≡ rows_with g key rows ++ row ∷ [] = filter-push (λ (r : Row). at key (take g r)) rows row ∙ rw h refl in
+      let k : rows_with g key after ≡ rows_with g key rows ++ row ∷ [] = filter-push (λ (r : Row). at key (group_of g r)) rows row ∙ rw h refl in
       ap (λ rs. (key, map (tally_of rs) items)) k ∙ ap (λ ts. (key, ts)) (with-each (rows_with g key rows) items)
 
-  all-behind : (k : Row) (ks : List Row) → key_order own k ≡ Less → AllByRecursion (λ l. key_order k l ≡ Less) ks → list_any (at own) ks ≡ false
+  all-behind : (k : Key) (ks : List Key) → key_order own k ≡ Less → AllByRecursion (λ l. key_order k l ≡ Less) ks → list_any (at own) ks ≡ false
   all-behind k [] less h = refl
   all-behind k (l ∷ ks) less h =
       let e : at own l ≡ false = ap is_eq (key-total.trans own k l less h.0) in
       let ih = all-behind k ks less h.1 in
       grind (arith, e, ih)
 
-  behind-same : (k : Row) (ks : List Row) → key_order own k ≡ Equal → AllByRecursion (λ l. key_order k l ≡ Less) ks → list_any (at own) ks ≡ false
+  behind-same : (k : Key) (ks : List Key) → key_order own k ≡ Equal → AllByRecursion (λ l. key_order k l ≡ Less) ks → list_any (at own) ks ≡ false
   behind-same k [] same h = refl
   behind-same k (l ∷ ks) same h =
       let e : at own l ≡ false = ap is_eq (key-total.congr own k l same ∙ h.0) in
@@ -167,7 +167,7 @@ module _ (g : ℕ) (items : List Item) (rows : List Row) (row : Row) where
       grind (arith, e, ih)
 
   -- in a group that is there
-  pub updated : (ks : List Row) (ts : List Tally) → Ascends ks → lookup (at own) (map (entry rows) ks) ≡ Some ts
+  pub updated : (ks : List Key) (ts : List Tally) → Ascends ks → lookup (at own) (map (entry rows) ks) ≡ Some ts
       → set_value (at own) (map (entry rows) ks) (map (λ tally. with_row tally row) ts) ≡ map (entry after) (insert_key key_order ks own)
   updated [] ts s h = absurd cc
   updated (k ∷ ks) ts s h = by (key_order own k) refl h (updated ks ts s.1)
@@ -193,7 +193,7 @@ module _ (g : ℕ) (items : List Item) (rows : List Row) (row : Row) where
 
   -- ---- in a new group
 
-  insert-has : (k : Row) (ks : List Row) (l : Row) → list_any (at k) ks ≡ true → list_any (at k) (insert_key key_order ks l) ≡ true
+  insert-has : (k : Key) (ks : List Key) (l : Key) → list_any (at k) ks ≡ true → list_any (at k) (insert_key key_order ks l) ≡ true
   insert-has k [] l h = absurd cc
   insert-has k (x ∷ ks) l h = by (key_order l x) refl (insert-has k ks l)
     where
@@ -206,7 +206,7 @@ module _ (g : ℕ) (items : List Item) (rows : List Row) (row : Row) where
           or true h ih = refl
           or false h ih = ih h
 
-  insert-own : (k : Row) (ks : List Row) → list_any (at k) (insert_key key_order ks k) ≡ true
+  insert-own : (k : Key) (ks : List Key) → list_any (at k) (insert_key key_order ks k) ≡ true
   insert-own k [] = let e = level key-total k in rw e refl
   insert-own k (x ∷ ks) = by (key_order k x) refl (insert-own k ks)
     where
@@ -215,22 +215,22 @@ module _ (g : ℕ) (items : List Item) (rows : List Row) (row : Row) where
       by Equal e ih = rw (e, e) refl
       by Greater e ih = rw (e, e) ih
 
-  abbrev insert_row : List Row → Row → List Row
-  insert_row keys row = insert_key key_order keys (take g row)
+  abbrev insert_row : List Key → Row → List Key
+  insert_row keys row = insert_key key_order keys (group_of g row)
 
-  fold-has : (k : Row) (ks rs : List Row) → list_any (at k) ks ≡ true → list_any (at k) (fold insert_row ks rs) ≡ true
+  fold-has : (k : Key) (ks : List Key) (rs : List Row) → list_any (at k) ks ≡ true → list_any (at k) (fold insert_row ks rs) ≡ true
   fold-has k ks [] h = h
-  fold-has k ks (r ∷ rs) h = fold-has k (insert_row ks r) rs (insert-has k ks (take g r) h)
+  fold-has k ks (r ∷ rs) h = fold-has k (insert_row ks r) rs (insert-has k ks (group_of g r) h)
 
   -- a key that is none of the groups' has no rows
-  none-with : (k : Row) (ks rs : List Row) → list_any (at k) (fold insert_row ks rs) ≡ false → rows_with g k rs ≡ []
+  none-with : (k : Key) (ks : List Key) (rs : List Row) → list_any (at k) (fold insert_row ks rs) ≡ false → rows_with g k rs ≡ []
   none-with k ks [] h = refl
-  none-with k ks (r ∷ rs) h = by (key_order k (take g r)) refl (none-with k (insert_row ks r) rs h)
+  none-with k ks (r ∷ rs) h = by (key_order k (group_of g r)) refl (none-with k (insert_row ks r) rs h)
     where
-      by : (p : Ordering) → key_order k (take g r) ≡ p → rows_with g k rs ≡ [] → rows_with g k (r ∷ rs) ≡ []
+      by : (p : Ordering) → key_order k (group_of g r) ≡ p → rows_with g k rs ≡ [] → rows_with g k (r ∷ rs) ≡ []
       by Less e ih = rw e ih
       by Equal e ih =
-          let same : k ≡ take g r = key-exact k (take g r) e in
+          let same : k ≡ group_of g r = key-exact k (group_of g r) e in
           let has : list_any (at k) (insert_row ks r) ≡ true = subst (λ l. list_any (at k) (insert_key key_order ks l) ≡ true) same (insert-own k ks) in
           let all = fold-has k (insert_row ks r) rs has in
           absurd cc
@@ -240,7 +240,7 @@ module _ (g : ℕ) (items : List Item) (rows : List Row) (row : Row) where
   alone none =
       mine own (ap is_eq (level key-total own)) ∙ ap (λ rs. (own, map (λ tally. with_row tally row) (map (tally_of rs) items))) none
 
-  put : (ks : List Row) (v : List Tally) → list_any (at own) ks ≡ false → entry after own ≡ (own, v)
+  put : (ks : List Key) (v : List Tally) → list_any (at own) ks ≡ false → entry after own ≡ (own, v)
       → insert_entry key_order (map (entry rows) ks) own v ≡ map (entry after) (insert_key key_order ks own)
   put [] v none is = ap (λ e. e ∷ []) (sym is)
   put (k ∷ ks) v none is = by (key_order own k) refl (put ks v (grind arith) is)
@@ -251,14 +251,14 @@ module _ (g : ℕ) (items : List Item) (rows : List Row) (row : Row) where
       by Equal e ih = let f : at own k ≡ true = ap is_eq e in absurd (grind (arith, f, none))
       by Greater e ih = let a = other k (ap is_eq (below key-total own k e)) in rw (e, a) (ap (λ zs. entry rows k ∷ zs) ih)
 
-  abbrev keys : List Row
+  abbrev keys : List Key
   keys = group_keys g rows
 
   keys-after : group_keys g after ≡ insert_key key_order keys own
   keys-after = fold-push insert_row (first_keys g) rows row
 
   -- what a map keeps, with the row in its group
-  pub row-added : (es : List (Vec Cell × Vec Tally)) (ts w : Vec Tally) → entries_seen es ≡ grouped g items rows → IsStrictlySortedBy vec_order (keys_of es)
+  pub row-added : (es : List (Vec (Option Cell) × Vec Tally)) (ts w : Vec Tally) → entries_seen es ≡ grouped g items rows → IsStrictlySortedBy vec_order (keys_of es)
       → lookup (λ l. is_eq (slice_cmp order own l.items)) es ≡ Some ts → w.items ≡ map (λ tally. with_row tally row) ts.items
       → entries_seen (set_value (λ l. is_eq (slice_cmp order own l.items)) es w) ≡ grouped g items after
   row-added es ts w is sorted found grown =
@@ -271,7 +271,7 @@ module _ (g : ℕ) (items : List Item) (rows : List Row) (row : Row) where
       ∙ ap (map (entry after)) (sym keys-after))))
 
   -- what a map keeps, with a new group of the row
-  pub group-added : (es : List (Vec Cell × Vec Tally)) (k : Vec Cell) (w : Vec Tally) → entries_seen es ≡ grouped g items rows → k.items ≡ own
+  pub group-added : (es : List (Vec (Option Cell) × Vec Tally)) (k : Vec (Option Cell)) (w : Vec Tally) → entries_seen es ≡ grouped g items rows → k.items ≡ own
       → lookup (λ l. is_eq (slice_cmp order own l.items)) es ≡ None → w.items ≡ map (λ tally. with_row tally row) (map first_tally items)
       → entries_seen (insert_entry vec_order es k w) ≡ grouped g items after
   group-added es k w is key found grown =
@@ -286,17 +286,17 @@ module _ (g : ℕ) (items : List Item) (rows : List Row) (row : Row) where
 
 -- ---- at a key that was cut from the row
 
-abbrev pub finds : Row → Vec Cell → Bool
+abbrev pub finds : Key → Vec (Option Cell) → Bool
 finds k l = is_eq (slice_cmp order k l.items)
 
-pub row-added-at : (g : ℕ) (items : List Item) (rows : List Row) (row : Row) (k : Row) (es : List (Vec Cell × Vec Tally)) (ts w : Vec Tally) → k ≡ take g row → entries_seen es ≡ grouped g items rows
+pub row-added-at : (g : ℕ) (items : List Item) (rows : List Row) (row : Row) (k : Key) (es : List (Vec (Option Cell) × Vec Tally)) (ts w : Vec Tally) → k ≡ group_of g row → entries_seen es ≡ grouped g items rows
     → IsStrictlySortedBy vec_order (keys_of es) → lookup (finds k) es ≡ Some ts → w.items ≡ map (λ tally. with_row tally row) ts.items
     → entries_seen (set_value (finds k) es w) ≡ grouped g items (rows ++ row ∷ [])
 row-added-at g items rows row k es ts w key is sorted found grown =
-    let there : lookup (finds (take g row)) es ≡ Some ts = subst (λ z. lookup (finds z) es ≡ Some ts) key found in
+    let there : lookup (finds (group_of g row)) es ≡ Some ts = subst (λ z. lookup (finds z) es ≡ Some ts) key found in
     ap (λ z. entries_seen (set_value (finds z) es w)) key ∙ row-added g items rows row es ts w is sorted there grown
 
-pub group-added-at : (g : ℕ) (items : List Item) (rows : List Row) (row : Row) (k : Row) (es : List (Vec Cell × Vec Tally)) (l : Vec Cell) (w : Vec Tally) → k ≡ take g row → entries_seen es ≡ grouped g items rows → l.items ≡ k
+pub group-added-at : (g : ℕ) (items : List Item) (rows : List Row) (row : Row) (k : Key) (es : List (Vec (Option Cell) × Vec Tally)) (l : Vec (Option Cell)) (w : Vec Tally) → k ≡ group_of g row → entries_seen es ≡ grouped g items rows → l.items ≡ k
     → lookup (finds k) es ≡ None → w.items ≡ map (λ tally. with_row tally row) (map first_tally items) → entries_seen (insert_entry vec_order es l w) ≡ grouped g items (rows ++ row ∷ [])
 group-added-at g items rows row k es l w key is copied found grown =
     group-added g items rows row es l w is (copied ∙ key) (subst (λ z. lookup (finds z) es ≡ None) key found) grown

@@ -1,5 +1,5 @@
 -- The laws of aggregates.
-use Rattle.std.proofs.Common.{◌≡◌, ℕ, ◌<◌, ◌^◌, List, [], ◌∷◌, ◌++◌, length, map, take, refl, sym, ap, subst, ◌∙◌, append_assoc, arith}
+use Rattle.std.proofs.Common.{◌≡◌, ℕ, ◌<◌, ◌^◌, List, [], ◌∷◌, ◌++◌, length, map, refl, sym, ap, subst, ◌∙◌, append_assoc, arith}
 use Rattle.std.specs.Global.{Vec}
 use Rattle.std.specs.Prelude.{IsPermutation, Option, Some, None, Result, Ok, Err}
 use Rattle.std.specs.Ordering.{is_eq}
@@ -18,12 +18,12 @@ use Rattle.sr_agg.specs.declared.tally.Tally.{Tally}
 use Rattle.sr_agg.specs.declared.agg.AggFault.TheVariants.{Sql}
 use Rattle.sr_agg.specs.Statement.{outer}
 use Rattle.sr_agg.specs.Inner.{group_count, inner_text}
-use Rattle.sr_agg.specs.Groups.{aggregates, first_keys, group_keys, key_order, rows_with}
+use Rattle.sr_agg.specs.Groups.{Key, aggregates, first_keys, group_keys, group_of, key_order, rows_with}
 use Rattle.sr_agg.specs.Starting.{Plan, Starts, asked_by, behind_query, item_of, judged, not_grouped, scope_of, sum_of_text}
 use Rattle.sr_agg.specs.Tallies.{first_tally, grouped, tally_of, told_by, with_row}
 use Rattle.sr_agg.specs.Kept.{entries_seen}
 use Rattle.sr_agg.specs.Laws.{OrderIsNothing, PlansTell, Tells, agg_of}
-use Rattle.sr_agg.proofs.Order.{key-total, key-exact}
+use Rattle.sr_agg.proofs.Order.{key-total, key-exact, row-total, row-exact}
 use Rattle.sr_agg.proofs.Inserting.{either-first}
 use Rattle.sr_agg.proofs.Bags.{gathered, fold-filter, either-passes, if_passes}
 use Rattle.sr_agg.proofs.Fewness.{few-of}
@@ -37,7 +37,7 @@ map-twice : {A B C : Type 0} (f : B → C) (h : A → B) (xs : List A) → map f
 map-twice f h [] = refl
 map-twice f h (x ∷ xs) = ap (λ ys. f (h x) ∷ ys) (map-twice f h xs)
 
-abbrev tell : Row × List Tally → List (Option Cell)
+abbrev tell : Key × List Tally → List (Option Cell)
 tell e = map (told_exactly e.0) e.1
 
 -- what tallies tell of groups is what is told of them
@@ -53,22 +53,22 @@ few_tell g items rows few =
     ∙ (map-same _ _ (λ key. map-twice (told_by key) (tally_of (rows_with g key rows)) items ∙ (map-same _ _ (one key) items ∙ sym (map-twice (told_exactly key) (tally_of (rows_with g key rows)) items))) (group_keys g rows)
     ∙ (sym (map-twice tell (λ key. (key, map (tally_of (rows_with g key rows)) items)) (group_keys g rows)) ∙ tells g items rows))
   where
-    one : (key : Row) (item : Item) → told_by key (tally_of (rows_with g key rows) item) ≡ told_exactly key (tally_of (rows_with g key rows) item)
+    one : (key : Key) (item : Item) → told_by key (tally_of (rows_with g key rows) item) ≡ told_exactly key (tally_of (rows_with g key rows) item)
     one key item =
         let a = tally-few (rows_with g key rows) item in
-        let b = few-of (λ (row : Row). is_eq (key_order key (take g row))) rows in
+        let b = few-of (λ (row : Row). is_eq (key_order key (group_of g row))) rows in
         few-exact key (tally_of (rows_with g key rows) item) (omega (arith, a, b, few))
 
-tally-same : (g : ℕ) (key : Row) (rows others : List Row) → IsPermutation rows others → (item : Item) → tally_of (rows_with g key rows) item ≡ tally_of (rows_with g key others) item
+tally-same : (g : ℕ) (key : Key) (rows others : List Row) → IsPermutation rows others → (item : Item) → tally_of (rows_with g key rows) item ≡ tally_of (rows_with g key others) item
 tally-same g key rows others p item =
-    let test = λ (row : Row). is_eq (key_order key (take g row)) in
+    let test = λ (row : Row). is_eq (key_order key (group_of g row)) in
     fold-filter test with_row (first_tally item) rows
-    ∙ (gathered key-total key-exact (if_passes test with_row) (either-passes test with_row row-either) rows others p (first_tally item)
+    ∙ (gathered row-total row-exact (if_passes test with_row) (either-passes test with_row row-either) rows others p (first_tally item)
     ∙ sym (fold-filter test with_row (first_tally item) others))
 
 keys-same : (g : ℕ) (rows others : List Row) → IsPermutation rows others → group_keys g rows ≡ group_keys g others
 keys-same g rows others p =
-    gathered key-total key-exact (λ (keys : List Row) (row : Row). insert_key key_order keys (take g row)) (λ z a b. either-first key-total key-exact z (take g a) (take g b)) rows others p (first_keys g)
+    gathered row-total row-exact (λ (keys : List Key) (row : Row). insert_key key_order keys (group_of g row)) (λ z a b. either-first key-total key-exact z (group_of g a) (group_of g b)) rows others p (first_keys g)
 
 grouped-same : (g : ℕ) (items : List Item) (rows others : List Row) → IsPermutation rows others → grouped g items rows ≡ grouped g items others
 grouped-same g items rows others p =
@@ -112,11 +112,11 @@ plans-tell schema text plan s q tables starts says asks = by (outer text) refl s
     by (Err fault) is starts = let e : Ok plan ≡ Err (Sql fault) = rw is at starts in absurd cc
     by (Ok a) is starts = let e = rw is at starts in with a is e.0 e.1 e.2
 
-abbrev tell_seen : List (Vec Cell × Vec Tally) → List (List (Option Cell))
+abbrev tell_seen : List (Vec (Option Cell) × Vec Tally) → List (List (Option Cell))
 tell_seen es = map (λ e. map (told_by e.0) e.1) (entries_seen es)
 
 -- one group more is told
-pub told-more : (told : List (List (Option Cell))) (row : List (Option Cell)) (k : Vec Cell) (v : Vec Tally) (es rest : List (Vec Cell × Vec Tally)) (all : List (List (Option Cell))) → es ≡ (k, v) ∷ rest
+pub told-more : (told : List (List (Option Cell))) (row : List (Option Cell)) (k : Vec (Option Cell)) (v : Vec Tally) (es rest : List (Vec (Option Cell) × Vec Tally)) (all : List (List (Option Cell))) → es ≡ (k, v) ∷ rest
     → row ≡ map (told_by k.items) v.items → told ++ tell_seen es ≡ all → (told ++ row ∷ []) ++ tell_seen rest ≡ all
 told-more told row k v es rest all e r so_far =
     append_assoc told (row ∷ []) (tell_seen rest) ∙ (ap (λ z. told ++ z ∷ tell_seen rest) r ∙ (ap (λ zs. told ++ tell_seen zs) (sym e) ∙ so_far))

@@ -1,7 +1,7 @@
 //! The groups of an answer's rows.
 ghost use Rattle.std.specs.Prelude.{◌≡◌, ◌<◌, ◌+◌, length, take, map, IfOk, OnOk};
 ghost use Rattle.std.specs.List.{All};
-ghost use Rattle.sr_agg.specs.Groups.{aggregates};
+ghost use Rattle.sr_agg.specs.Groups.{aggregates, group_of, known};
 ghost use Rattle.sr_agg.specs.Tallies.{first_tally, grouped, told_by, with_row, IsFew};
 ghost use Rattle.sr_agg.specs.Kept.{entries_seen};
 
@@ -12,8 +12,8 @@ use sr_cell::list::{Copied, NoMemory};
 use std::alloc::Global;
 use std::collections::BTreeMap;
 
-/// The groups by their grouping cells.
-type Groups = BTreeMap<Vec<Cell>, Vec<Tally>>;
+/// The groups by their grouping cells, where None stands for NULL, and so before all others.
+type Groups = BTreeMap<Vec<Option<Cell>>, Vec<Tally>>;
 
 /// The first cells of a row, so many; or all, where it has fewer.
 fn front(row: &Row, count: usize) -> &[Cell]
@@ -26,12 +26,24 @@ fn front(row: &Row, count: usize) -> &[Cell]
     cells
 }
 
-fn copied(alloc: Global, cells: &[Cell]) -> Result<Vec<Cell>, NoMemory>
-    ensures { IfOk result (λ key. key.items ≡ cells.now) }
+/// The cell, or None where it is NULL.
+fn known(alloc: Global, cell: &Cell) -> Result<Option<Cell>, NoMemory>
+    ensures { IfOk result (λ told. told ≡ known cell.now) }
 {
+    if cell.is_null() {
+        return Ok(None);
+    }
+    Ok(Some(cell.copy(alloc)?))
+}
+
+/// The first cells of a row, so many, as the key of a group.
+fn group_of(alloc: Global, row: &Row, count: usize) -> Result<Vec<Option<Cell>>, NoMemory>
+    ensures { IfOk result (λ key. key.items ≡ group_of count row.now) }
+{
+    let cells = front(row, count);
     let mut key = Vec::with_capacity(alloc, cells.len())?;
     for cell in cells {
-        key.push(cell.copy(alloc)?)?;
+        key.push(known(alloc, cell)?)?;
     }
     Ok(key)
 }
@@ -72,13 +84,13 @@ fn add(
     ensures { OnOk result (entries_seen groups.new.entries ≡ grouped count items.now (take (number + 1) rows.now)) }
 {
     let row = &rows[number];
-    let key = front(row, count);
-    if let Some(tallies) = groups.get_mut(key) {
+    let key = group_of(alloc, row, count)?;
+    if let Some(tallies) = groups.get_mut(key.as_slice()) {
         return add_row(alloc, tallies, row);
     }
     let mut tallies = first_tallies(alloc, items)?;
     add_row(alloc, &mut tallies, row)?;
-    groups.insert(copied(alloc, key)?, tallies)?;
+    groups.insert(key, tallies)?;
     Ok(())
 }
 
@@ -97,7 +109,7 @@ fn grouped(alloc: Global, count: usize, items: &[Item], rows: &[Row]) -> Result<
 }
 
 /// What is told of a group.
-fn told_of(alloc: Global, key: &[Cell], tallies: &[Tally]) -> Result<GroupRow, NoMemory>
+fn told_of(alloc: Global, key: &[Option<Cell>], tallies: &[Tally]) -> Result<GroupRow, NoMemory>
     ensures { IfOk result (λ row. row ≡ map (told_by key.now) tallies.now) }
 {
     let mut row = GroupRow::with_room(alloc, tallies.len())?;

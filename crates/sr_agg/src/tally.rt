@@ -1,9 +1,8 @@
 //! What is kept of the rows of a group.
 ghost use Rattle.std.specs.Prelude.{◌≡◌, IfOk, OnOk, Some, if◌then◌else◌};
 ghost use Rattle.std.specs.Ordering.{is_gt};
-ghost use Rattle.sr_cell.specs.Cells.{cell_at};
-ghost use Rattle.sr_agg.specs.Groups.{cell_order, greater, lesser, number_in};
-ghost use Rattle.sr_agg.specs.Tallies.{column_in, first_tally, told_by, with_cell, with_row, IsFew};
+ghost use Rattle.sr_agg.specs.Groups.{cell_order, greater, lesser, number_in, told_at};
+ghost use Rattle.sr_agg.specs.Tallies.{column_in, first_tally, told_by, with_cell, with_null, with_row, with_value, IsFew};
 
 use crate::item::{Function, Item};
 use crate::total::{Total, nearest};
@@ -29,12 +28,13 @@ fn comes_behind(one: &Cell, other: &Cell) -> bool
     one.cmp(other).is_gt()
 }
 
-fn cell_of(alloc: Global, cells: &[Cell], place: usize) -> Result<Cell, NoMemory>
-    ensures { IfOk result (λ cell. cell ≡ cell_at cells.now place) }
+#[tactic(auto, using(crate::proofs::Cells::untold))]
+fn told_at(alloc: Global, key: &[Option<Cell>], place: usize) -> Result<Option<Cell>, NoMemory>
+    ensures { IfOk result (λ told. told ≡ told_at key.now place) }
 {
-    match cells.get(place) {
+    match key.get(place) {
         Some(cell) => cell.copy(alloc),
-        None => Ok(Cell::Num(0)),
+        None => Ok(None),
     }
 }
 
@@ -43,7 +43,7 @@ fn number_in(cell: &Cell) -> i64
 {
     match cell {
         Cell::Num(number) => *number,
-        Cell::Str(_) => 0,
+        Cell::Str(_) | Cell::Null => 0,
     }
 }
 
@@ -117,6 +117,27 @@ impl Tally {
         requires { IsFew self.old }
         ensures { OnOk result (self.new ≡ with_cell self.old cell.now) }
     {
+        if cell.is_null() {
+            self.take_null();
+            return Ok(());
+        }
+        self.take_value(alloc, cell)
+    }
+
+    fn take_null(&mut self)
+        requires { IsFew self.old }
+        ensures { self.new ≡ with_null self.old }
+    {
+        match self {
+            Tally::Rows(count) => *count += 1,
+            _ => {}
+        }
+    }
+
+    fn take_value(&mut self, alloc: Global, cell: &Cell) -> Result<(), NoMemory>
+        requires { IsFew self.old }
+        ensures { OnOk result (self.new ≡ with_value self.old cell.now) }
+    {
         match self {
             Tally::Grouping(_) => {}
             Tally::Rows(count) => *count += 1,
@@ -141,11 +162,11 @@ impl Tally {
     }
 
     /// What it tells of the group with these grouping cells.
-    pub(crate) fn told(&self, alloc: Global, key: &[Cell]) -> Result<Option<Cell>, NoMemory>
+    pub(crate) fn told(&self, alloc: Global, key: &[Option<Cell>]) -> Result<Option<Cell>, NoMemory>
         ensures { IfOk result (λ told. told ≡ told_by key.now self.now) }
     {
         match self {
-            Tally::Grouping(place) => Ok(Some(cell_of(alloc, key, *place)?)),
+            Tally::Grouping(place) => told_at(alloc, key, *place),
             Tally::Rows(count) => Ok(Some(Cell::Num(nearest(*count as i128)))),
             Tally::Count(_, count) => Ok(Some(Cell::Num(nearest(*count as i128)))),
             Tally::Sum(_, total) => Ok(total.told()),

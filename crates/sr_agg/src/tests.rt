@@ -147,13 +147,15 @@ static ROWS: [(i64, i64, &str); 6] = [
 ];
 
 fn column(alloc: Global, name: &str, kind: Kind) -> Result<Column, NoMemory>
-    ensures { IfOk result (λ column. is_bad_domain column ≡ false) }
+    ensures good { IfOk result (λ column. is_bad_domain column ≡ false) }
+    ensures never { IfOk result (λ column. column.nullable ≡ false) }
 {
     Ok(Column {
         name: Text::of(alloc, name)?,
         kind,
         lo: 0,
         hi: 0,
+        nullable: false,
     })
 }
 

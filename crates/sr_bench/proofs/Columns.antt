@@ -2,8 +2,8 @@
 use Rattle.std.proofs.Common.{◌≡◌, true, List, [], ◌∷◌, ◌++◌, arith}
 use Rattle.sr_cell.specs.declared.table.Column.{Column}
 use Rattle.sr_cell.specs.Columns.{in_column}
-use Rattle.sr_box.specs.Corners.{first_value}
-use Rattle.sr_union.specs.Grid.{all_inner, have_first, is_inner}
+use Rattle.sr_box.specs.Corners.{first_value, have_first}
+use Rattle.sr_union.specs.Grid.{all_inner, is_inner}
 
 pub inner_more : (cs : List Column) (c : Column) → all_inner cs ≡ true → is_inner c ≡ true → all_inner (cs ++ c ∷ []) ≡ true
 inner_more [] c h k = grind (arith, k)

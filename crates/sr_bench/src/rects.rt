@@ -1,9 +1,9 @@
 //! Random rects of a table of numbers.
 ghost use Rattle.std.specs.Prelude.{◌≡◌, ◌<◌, true, IfOk};
 ghost use Rattle.sr_bytes.specs.Writing.{may_write_span};
-ghost use Rattle.sr_union.specs.Grid.{all_inner, have_first, is_inner};
+ghost use Rattle.sr_union.specs.Grid.{all_inner, is_inner};
 ghost use Rattle.sr_cell.specs.Columns.{in_column};
-ghost use Rattle.sr_box.specs.Corners.{first_value};
+ghost use Rattle.sr_box.specs.Corners.{first_value, have_first};
 
 use sr_box::rect::Rect;
 use sr_box::span::Span;
@@ -73,6 +73,7 @@ fn column(alloc: Global) -> Result<Column, NoMemory>
         kind: Kind::Num,
         lo: 0,
         hi: LAST as i64,
+        nullable: false,
     })
 }
 

@@ -86,6 +86,7 @@ fn sum_row(mut row: RowView<'_>) -> u64 {
         sum = sum.wrapping_add(match cell {
             CellView::Num(number) => number.unsigned_abs(),
             CellView::Str(text) => text.len() as u64,
+            CellView::Null => 1,
         });
     }
     sum
@@ -111,7 +112,7 @@ fn sum_rect(mut rect: RectView<'_>) -> u64 {
     let mut sum: u64 = 0;
     while let Some(span) = rect.next() {
         sum = sum.wrapping_add(match span {
-            SpanView::Full => 1,
+            SpanView::Full | SpanView::Null => 1,
             SpanView::Nums { lo, hi } => lo.unsigned_abs().wrapping_add(hi.unsigned_abs()),
             SpanView::Strs { lo, .. } => lo.len() as u64,
         });

@@ -26,7 +26,7 @@ use Rattle.sr_bind.specs.Written.{cells_of, are_columns, columns_of, next_place}
 
 -- the numbers of columns, one more
 pub numbers_more : (c : ℕ) (columns : List Column) → c < length columns → numbers_from c (drop c columns) ≡ c ∷ numbers_from (c + 1) (drop (c + 1) columns)
-numbers_more c columns h = rw (drop-cons columns c (record { name = []; kind = Str; lo = pos 0; hi = pos 0 })) (rw add-one)
+numbers_more c columns h = rw (drop-cons columns c (record { name = []; kind = Str; lo = pos 0; hi = pos 0; nullable = false })) (rw add-one)
 
 pub one_number_more : (c : ℕ) (columns : List Column) (before after : List ℕ) (all : List ℕ) → c < length columns
     → before ++ numbers_from c (drop c columns) ≡ all → after ≡ before ++ c ∷ [] → after ++ numbers_from (c + 1) (drop (c + 1) columns) ≡ all

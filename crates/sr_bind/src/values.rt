@@ -64,6 +64,7 @@ fn is_of(kind: Kind, cell: &Cell) -> bool
     ensures { result ≡ is_of kind cell.now }
 {
     match (kind, cell) {
+        (_, Cell::Null) => true,
         (Kind::Num, Cell::Num(_)) => true,
         (Kind::Str, Cell::Str(_)) => true,
         _ => false,
@@ -76,6 +77,7 @@ fn is_inside(cell: &Cell) -> bool
     match cell {
         Cell::Num(number) => LOW <= *number && *number <= HIGH,
         Cell::Str(text) => text.as_str().len() <= LONGEST,
+        Cell::Null => false,
     }
 }
 
@@ -99,8 +101,9 @@ pub fn holds(atom: &Atom) -> bool
     ensures { result ≡ holds atom.now }
 {
     match atom {
-        Atom::Cmp(_, _) | Atom::Between(_, _) | Atom::OneOf(_) | Atom::Prefix(_) => true,
-        Atom::NotBetween(_, _) | Atom::NotOneOf(_) | Atom::NotPrefix(_) => false,
+        Atom::Cmp(_, _) | Atom::Between(_, _) | Atom::OneOf(_) | Atom::Prefix(_) | Atom::IsNull =>
+            true,
+        Atom::NotBetween(_, _) | Atom::NotOneOf(_) | Atom::NotPrefix(_) | Atom::NotNull => false,
     }
 }
 
@@ -120,6 +123,7 @@ pub fn test_of(alloc: Global, kind: Kind, atom: &Atom) -> Result<Test, No<Fault>
             Err(no) => Err(no),
         },
         Atom::Prefix(text) | Atom::NotPrefix(text) => prefix(alloc, kind, text),
+        Atom::IsNull | Atom::NotNull => Ok(Test::IsNull),
     }
 }
 
@@ -143,7 +147,7 @@ fn prefix(alloc: Global, kind: Kind, literal: &Literal) -> Result<Test, No<Fault
 {
     match value_of(alloc, kind, literal) {
         Ok(Cell::Str(start)) => Ok(Test::Prefix(start)),
-        Ok(Cell::Num(_)) => Ok(Test::Prefix(Text::of(alloc, "")?)),
+        Ok(Cell::Num(_)) | Ok(Cell::Null) => Ok(Test::Prefix(Text::of(alloc, "")?)),
         Err(no) => Err(no),
     }
 }

@@ -2,11 +2,12 @@
 ghost use Rattle.std.specs.Prelude.{◌≡◌, pos, ◌+ℤ◌, ◌-ℤ◌, ◌<ℤ◌, ◌^◌, IfOk};
 ghost use Rattle.std.specs.Int.{int_max, int_min};
 ghost use Rattle.std.specs.Option.{is_some};
-ghost use Rattle.sr_box.specs.Cut.{nums, strs, text_max, end_min, meet, under, over, IsInner};
+ghost use Rattle.sr_box.specs.Cut.{nums, strs, text_max, end_min, meet, under, over, values, beyond, IsInner};
 
 use crate::span::{Span, is_before};
 use sr_cell::cell::is_text_at_most;
 use sr_cell::list::{Bytes, Copied, NoMemory, Seq};
+use sr_cell::table::{Column, Kind};
 use std::alloc::Global;
 
 fn are_nums(lo: i64, hi: i64) -> bool
@@ -125,6 +126,7 @@ fn others_meet(one: &Span, other: &Span) -> bool
             are_nums((*a).max(*c), (*b).min(*d))
         }
         (Span::Strs { lo: a, hi: b }, Span::Strs { lo: c, hi: d }) => texts_meet(a, b, c, d),
+        (Span::Null, Span::Null) => true,
         _ => false,
     }
 }
@@ -156,6 +158,7 @@ impl Span {
             (Span::Strs { lo: a, hi: b }, Span::Strs { lo: c, hi: d }) => {
                 Ok(some_strs(later_text(alloc, a, c)?, earlier_end(alloc, b, d)?))
             }
+            (Span::Null, Span::Null) => Ok(Some(Span::Null)),
             _ => Ok(None),
         }
     }
@@ -197,6 +200,49 @@ impl Span {
                 Ok(some_strs(later_text(alloc, a, d)?, b.copy(alloc)?))
             }
             _ => Ok(None),
+        }
+    }
+
+    /// The part that lies on the other side of Null: Null itself where the other span has it not, or the values that are
+    /// not Null where that has it alone.
+    pub fn beyond(
+        &self,
+        alloc: Global,
+        other: &Span,
+        column: &Column,
+    ) -> Result<Option<Span>, NoMemory>
+        ensures { IfOk result (λ part. part ≡ beyond column.now.kind column.now.lo column.now.hi column.now.nullable self.now other.now) }
+    {
+        match (self, other) {
+            (_, Span::Full) => Ok(None),
+            (Span::Full, Span::Null) => Ok(Some(Span::values(alloc, column))),
+            (Span::Full, _) => {
+                if column.nullable {
+                    Ok(Some(Span::Null))
+                } else {
+                    Ok(None)
+                }
+            }
+            (Span::Null, Span::Null) => Ok(None),
+            (Span::Null, _) => Ok(Some(Span::Null)),
+            (_, Span::Null) => Ok(Some(self.copy(alloc)?)),
+            _ => Ok(None),
+        }
+    }
+
+    /// All values of a column but Null; takes no memory.
+    pub fn values(alloc: Global, column: &Column) -> Span
+        ensures { result ≡ values column.now.kind column.now.lo column.now.hi }
+    {
+        match column.kind {
+            Kind::Num => Span::Nums {
+                lo: column.lo,
+                hi: column.hi,
+            },
+            Kind::Str => Span::Strs {
+                lo: Seq::new(alloc),
+                hi: None,
+            },
         }
     }
 }

@@ -1,19 +1,19 @@
 -- Cells, rows, spans and rects: what is spelled is read again, and what is read is spelled.
-use Rattle.std.proofs.Common.{◌≡◌, ℕ, zero, suc, ◌^◌, ◌<◌, ◌≤◌, Bool, true, List, [], ◌∷◌, ◌++◌, length, Some, None, refl, sym, ap, subst, ◌∙◌, append_assoc, arith}
+use Rattle.std.proofs.Common.{◌≡◌, ℕ, zero, suc, ◌^◌, ◌<◌, ◌≤◌, Bool, List, [], ◌∷◌, ◌++◌, length, Some, None, refl, sym, ap, subst, ◌∙◌, append_assoc, arith}
 use Rattle.std.specs.Prelude.{IsTrue, ◌&&◌, int_le, not, nat_le, nat_lt}
 use Rattle.std.specs.Int.{w16, w32}
 use Rattle.std.specs.List.{list_all, flat_map}
 use Rattle.std.specs.Str.{is_utf8}
-use Rattle.std.proofs.lemmas.Bool.{leb-true, le-leb, and_from}
+use Rattle.std.proofs.lemmas.Bool.{leb-true, and_from}
 use Rattle.std.specs.Cmp.{first_so, second_so}
 use Rattle.sr_cell.specs.declared.cell.Cell.{Cell}
-use Rattle.sr_cell.specs.declared.cell.Cell.TheVariants.{Num, Str}
-use Rattle.sr_cell.specs.Cells.{text_le}
+use Rattle.sr_cell.specs.declared.cell.Cell.TheVariants.{Num, Str, Null as NullCell}
+use Rattle.sr_cell.specs.Cells.{text_le, is_null}
 use Rattle.sr_cell.specs.Columns.{are_bytes}
 use Rattle.sr_box.specs.declared.span.Span.{Span}
-use Rattle.sr_box.specs.declared.span.Span.TheVariants.{Full, Nums, Strs}
-use Rattle.sr_bytes.specs.Reading.{Got, Reader, ◌>>=◌, give, passing, many, a_byte, a_number, a_signed, a_text, any_bytes, a_cell_of, a_cell, a_row, some_rows, a_span_of, a_span, a_rect, some_rects}
-use Rattle.sr_bytes.specs.Spelling.{number_bytes, count_bytes, short_count_bytes, text_bytes, cell_bytes, row_bytes, rows_bytes, span_bytes, rect_bytes, rects_bytes, is_from_to, is_number, is_bound, has_cell_bytes, has_row_bytes, have_rows_bytes, has_span_bytes, has_rect_bytes, have_rects_bytes}
+use Rattle.sr_box.specs.declared.span.Span.TheVariants.{Full, Nums, Strs, Null}
+use Rattle.sr_bytes.specs.Reading.{Got, Reader, ◌>>=◌, give, passing, many, a_byte, a_number, a_signed, a_text, any_bytes, a_key_of, a_key, a_cell_of, a_cell, a_row, some_rows, a_span_of, a_span, a_rect, some_rects}
+use Rattle.sr_bytes.specs.Spelling.{number_bytes, count_bytes, short_count_bytes, text_bytes, cell_bytes, row_bytes, rows_bytes, span_bytes, rect_bytes, rects_bytes, is_from_to, is_number, is_bound, has_cell_bytes, has_key_bytes, has_row_bytes, have_rows_bytes, has_span_bytes, has_rect_bytes, have_rects_bytes}
 use Rattle.sr_bytes.specs.Laws.{IsExact}
 use Rattle.sr_bytes.proofs.Steps.{step_of, got_value, got_rest, passed, rest_bytes, front_bytes, behind, many_again, many_spelled}
 use Rattle.sr_bytes.proofs.Numbers.{byte_in_spelled, short_count_again, short_count_spelled, count_again, count_spelled, signed_again, signed_spelled, from_zero, to_zero, text_again, text_spelled}
@@ -54,31 +54,64 @@ counted_exact low high r bytes_of has exact =
 
 -- ---- cells and rows
 
+key_again : (c : Cell) (rest : List ℕ) → IsTrue (has_key_bytes c) → a_key (cell_bytes c ++ rest) ≡ Got c rest
+key_again (Num n) rest h = rw (signed_again n rest h) refl
+key_again (Str text) rest h =
+    rw (text_again 0 120 is_utf8 text rest (from_zero 120 (length text) (first_so (nat_le (length text) 120) (is_utf8 text) h)) (second_so (nat_le (length text) 120) (is_utf8 text) h)) refl
+key_again NullCell rest h = absurd cc
+
+key_behind : (kind : ℕ) (bytes : List ℕ) (c : Cell) (rest : List ℕ) → IsTrue (is_from_to 0 1 kind) → IsTrue (are_bytes bytes) → a_key_of kind bytes ≡ Got c rest
+    → (kind ∷ bytes ≡ cell_bytes c ++ rest) × IsTrue (has_key_bytes c)
+key_behind zero bytes c rest k fits e =
+    let s = step_of (a_signed bytes) (λ n. give (Num n)) c rest e in
+    let t = signed_spelled bytes s.value s.left fits s.first in
+    let is_rest = got_rest (Num s.value) c s.left rest s.second in
+    subst (λ v. (0 ∷ bytes ≡ cell_bytes v ++ rest) × IsTrue (has_key_bytes v)) (got_value (Num s.value) c s.left rest s.second)
+    (ap (λ (u : List ℕ). 0 ∷ u) (t.0 ∙ ap (λ (r : List ℕ). number_bytes s.value ++ r) is_rest), t.1)
+key_behind (suc zero) bytes c rest k fits e =
+    let s = step_of (a_text 0 120 is_utf8 bytes) (λ text. give (Str text)) c rest e in
+    let t = text_spelled 0 120 is_utf8 bytes s.value s.left s.first in
+    let is_rest = got_rest (Str s.value) c s.left rest s.second in
+    subst (λ v. (1 ∷ bytes ≡ cell_bytes v ++ rest) × IsTrue (has_key_bytes v)) (got_value (Str s.value) c s.left rest s.second)
+    (ap (λ (u : List ℕ). 1 ∷ u) (t.parts ∙ ap (λ (r : List ℕ). text_bytes s.value ++ r) is_rest), and_from (nat_le (length s.value) 120) (is_utf8 s.value) (to_zero 120 (length s.value) t.count) t.passes)
+key_behind (suc (suc kind)) bytes c rest k fits e = absurd (omega (arith, leb-true _ _ (to_zero 1 (suc (suc kind)) k)))
+
+key_spelled : (bytes : List ℕ) (c : Cell) (rest : List ℕ) → IsTrue (are_bytes bytes) → a_key bytes ≡ Got c rest → (bytes ≡ cell_bytes c ++ rest) × IsTrue (has_key_bytes c)
+key_spelled bytes c rest fits e =
+    let s = step_of (passing (is_from_to 0 1) a_byte bytes) a_key_of c rest e in
+    let b = byte_in_spelled (is_from_to 0 1) bytes s.value s.left s.first in
+    let t = key_behind s.value s.left c rest b.1 (rest_bytes bytes (s.value ∷ []) s.left b.0 fits) s.second in
+    (b.0 ∙ t.0, t.1)
+
+pub key_exact : IsExact a_key cell_bytes has_key_bytes
+key_exact = record { again = key_again; spelled = key_spelled }
+
 cell_again : (c : Cell) (rest : List ℕ) → IsTrue (has_cell_bytes c) → a_cell (cell_bytes c ++ rest) ≡ Got c rest
 cell_again (Num n) rest h = rw (signed_again n rest h) refl
 cell_again (Str text) rest h =
     rw (text_again 0 120 is_utf8 text rest (from_zero 120 (length text) (first_so (nat_le (length text) 120) (is_utf8 text) h)) (second_so (nat_le (length text) 120) (is_utf8 text) h)) refl
+cell_again NullCell rest h = refl
 
-cell_behind : (kind : ℕ) (bytes : List ℕ) (c : Cell) (rest : List ℕ) → IsTrue (is_from_to 0 1 kind) → IsTrue (are_bytes bytes) → a_cell_of kind bytes ≡ Got c rest
+-- a key is a cell
+key_is_cell : (kind : ℕ) (bytes : List ℕ) (c : Cell) (rest : List ℕ) → IsTrue (is_from_to 0 1 kind) → IsTrue (are_bytes bytes) → a_key_of kind bytes ≡ Got c rest
     → (kind ∷ bytes ≡ cell_bytes c ++ rest) × IsTrue (has_cell_bytes c)
-cell_behind zero bytes c rest k fits e =
-    let s = step_of (a_signed bytes) (λ n. give (Num n)) c rest e in
-    let t = signed_spelled bytes s.value s.left fits s.first in
-    let is_rest = got_rest (Num s.value) c s.left rest s.second in
-    subst (λ v. (0 ∷ bytes ≡ cell_bytes v ++ rest) × IsTrue (has_cell_bytes v)) (got_value (Num s.value) c s.left rest s.second)
-    (ap (λ (u : List ℕ). 0 ∷ u) (t.0 ∙ ap (λ (r : List ℕ). number_bytes s.value ++ r) is_rest), t.1)
-cell_behind (suc zero) bytes c rest k fits e =
-    let s = step_of (a_text 0 120 is_utf8 bytes) (λ text. give (Str text)) c rest e in
-    let t = text_spelled 0 120 is_utf8 bytes s.value s.left s.first in
-    let is_rest = got_rest (Str s.value) c s.left rest s.second in
-    subst (λ v. (1 ∷ bytes ≡ cell_bytes v ++ rest) × IsTrue (has_cell_bytes v)) (got_value (Str s.value) c s.left rest s.second)
-    (ap (λ (u : List ℕ). 1 ∷ u) (t.parts ∙ ap (λ (r : List ℕ). text_bytes s.value ++ r) is_rest), and_from (nat_le (length s.value) 120) (is_utf8 s.value) (to_zero 120 (length s.value) t.count) t.passes)
-cell_behind (suc (suc kind)) bytes c rest k fits e = absurd (omega (arith, leb-true _ _ (to_zero 1 (suc (suc kind)) k)))
+key_is_cell kind bytes c rest k fits e =
+    let t = key_behind kind bytes c rest k fits e in
+    (t.0, second_so (not (is_null c)) (has_cell_bytes c) t.1)
+
+cell_behind : (kind : ℕ) (bytes : List ℕ) (c : Cell) (rest : List ℕ) → IsTrue (is_from_to 0 2 kind) → IsTrue (are_bytes bytes) → a_cell_of kind bytes ≡ Got c rest
+    → (kind ∷ bytes ≡ cell_bytes c ++ rest) × IsTrue (has_cell_bytes c)
+cell_behind zero bytes c rest k fits e = key_is_cell 0 bytes c rest refl fits e
+cell_behind (suc zero) bytes c rest k fits e = key_is_cell 1 bytes c rest refl fits e
+cell_behind (suc (suc zero)) bytes c rest k fits e =
+    subst (λ v. (2 ∷ bytes ≡ cell_bytes v ++ rest) × IsTrue (has_cell_bytes v)) (got_value NullCell c bytes rest e)
+    (ap (λ (t : List ℕ). 2 ∷ t) (got_rest NullCell c bytes rest e), refl)
+cell_behind (suc (suc (suc kind))) bytes c rest k fits e = absurd (omega (arith, leb-true _ _ (to_zero 2 (suc (suc (suc kind))) k)))
 
 cell_spelled : (bytes : List ℕ) (c : Cell) (rest : List ℕ) → IsTrue (are_bytes bytes) → a_cell bytes ≡ Got c rest → (bytes ≡ cell_bytes c ++ rest) × IsTrue (has_cell_bytes c)
 cell_spelled bytes c rest fits e =
-    let s = step_of (passing (is_from_to 0 1) a_byte bytes) a_cell_of c rest e in
-    let b = byte_in_spelled (is_from_to 0 1) bytes s.value s.left s.first in
+    let s = step_of (passing (is_from_to 0 2) a_byte bytes) a_cell_of c rest e in
+    let b = byte_in_spelled (is_from_to 0 2) bytes s.value s.left s.first in
     let t = cell_behind s.value s.left c rest b.1 (rest_bytes bytes (s.value ∷ []) s.left b.0 fits) s.second in
     (b.0 ∙ t.0, t.1)
 
@@ -89,17 +122,6 @@ pub row_exact : IsExact a_row row_bytes has_row_bytes
 row_exact = counted_exact 1 12 a_cell cell_bytes has_cell_bytes cell_exact
 
 -- ---- spans and rects
-
--- a text that begins a span without an end is not empty
-from_one : (text : List ℕ) → IsTrue (is_bound text && not (text_le text [])) → IsTrue (is_from_to 1 121 (length text))
-from_one [] h = absurd cc
-from_one (b ∷ text) h =
-    and_from (nat_le 1 (length (b ∷ text))) (nat_le (length (b ∷ text)) 121) (le-leb 1 (length (b ∷ text)) (omega arith))
-    (first_so (nat_le (length (b ∷ text)) 121) (are_bytes (b ∷ text)) (first_so (is_bound (b ∷ text)) true h))
-
-to_one : (text : List ℕ) → IsTrue (is_from_to 1 121 (length text)) → IsTrue (are_bytes text) → IsTrue (is_bound text && not (text_le text []))
-to_one [] h fits = absurd cc
-to_one (b ∷ text) h fits = and_from (is_bound (b ∷ text)) true (and_from (nat_le (length (b ∷ text)) 121) (are_bytes (b ∷ text)) (second_so (nat_le 1 (length (b ∷ text))) (nat_le (length (b ∷ text)) 121) h) fits) refl
 
 span_again : (s : Span) (rest : List ℕ) → IsTrue (has_span_bytes s) → a_span (span_bytes s ++ rest) ≡ Got s rest
 span_again Full rest h = refl
@@ -117,7 +139,8 @@ span_again (Strs lo (Some hi)) rest h =
       text_again 0 121 any_bytes hi rest (from_zero 121 (length hi) (first_so (nat_le (length hi) 121) (are_bytes hi) (second_so (is_bound lo) (is_bound hi) ends))) refl,
       above,
     ) refl
-span_again (Strs lo None) rest h = rw (text_again 1 121 any_bytes lo rest (from_one lo h) refl) refl
+span_again (Strs lo None) rest h = rw (text_again 0 121 any_bytes lo rest (from_zero 121 (length lo) (first_so (nat_le (length lo) 121) (are_bytes lo) h)) refl) refl
+span_again Null rest h = refl
 
 bound_is : (text : List ℕ) → IsTrue (is_from_to 0 121 (length text)) → IsTrue (are_bytes text) → IsTrue (is_bound text)
 bound_is text few fits = and_from (nat_le (length text) 121) (are_bytes text) (to_zero 121 (length text) few) fits
@@ -126,7 +149,7 @@ bound_is text few fits = and_from (nat_le (length text) 121) (are_bytes text) (t
 bytes_of_text : (bytes text rest : List ℕ) → bytes ≡ text_bytes text ++ rest → IsTrue (are_bytes bytes) → IsTrue (are_bytes text)
 bytes_of_text bytes text rest e fits = second_so (nat_lt (length text) 256) (are_bytes text) (front_bytes bytes (text_bytes text) rest e fits)
 
-span_behind : (kind : ℕ) (bytes : List ℕ) (s : Span) (rest : List ℕ) → IsTrue (is_from_to 0 3 kind) → IsTrue (are_bytes bytes) → a_span_of kind bytes ≡ Got s rest
+span_behind : (kind : ℕ) (bytes : List ℕ) (s : Span) (rest : List ℕ) → IsTrue (is_from_to 0 4 kind) → IsTrue (are_bytes bytes) → a_span_of kind bytes ≡ Got s rest
     → (kind ∷ bytes ≡ span_bytes s ++ rest) × IsTrue (has_span_bytes s)
 span_behind zero bytes s rest k fits e =
     subst (λ v. (0 ∷ bytes ≡ span_bytes v ++ rest) × IsTrue (has_span_bytes v)) (got_value Full s bytes rest e)
@@ -162,17 +185,20 @@ span_behind (suc (suc zero)) bytes s rest k fits e =
           (and_from (is_bound lo) (is_bound hi) (bound_is lo first.count lo_bytes) (bound_is hi second.count hi_bytes)) p.1,
     )
 span_behind (suc (suc (suc zero))) bytes s rest k fits e =
-    let one = step_of (a_text 1 121 any_bytes bytes) (λ lo. give (Strs lo None)) s rest e in
-    let first = text_spelled 1 121 any_bytes bytes one.value one.left one.first in
+    let one = step_of (a_text 0 121 any_bytes bytes) (λ lo. give (Strs lo None)) s rest e in
+    let first = text_spelled 0 121 any_bytes bytes one.value one.left one.first in
     let is_rest = got_rest (Strs one.value None) s one.left rest one.second in
     subst (λ v. (3 ∷ bytes ≡ span_bytes v ++ rest) × IsTrue (has_span_bytes v)) (got_value (Strs one.value None) s one.left rest one.second)
-    (ap (λ (t : List ℕ). 3 ∷ t) (first.parts ∙ ap (λ (r : List ℕ). text_bytes one.value ++ r) is_rest), to_one one.value first.count (bytes_of_text bytes one.value one.left first.parts fits))
-span_behind (suc (suc (suc (suc kind)))) bytes s rest k fits e = absurd (omega (arith, leb-true _ _ (to_zero 3 (suc (suc (suc (suc kind)))) k)))
+    (ap (λ (t : List ℕ). 3 ∷ t) (first.parts ∙ ap (λ (r : List ℕ). text_bytes one.value ++ r) is_rest), bound_is one.value first.count (bytes_of_text bytes one.value one.left first.parts fits))
+span_behind (suc (suc (suc (suc zero)))) bytes s rest k fits e =
+    subst (λ v. (4 ∷ bytes ≡ span_bytes v ++ rest) × IsTrue (has_span_bytes v)) (got_value Null s bytes rest e)
+    (ap (λ (t : List ℕ). 4 ∷ t) (got_rest Null s bytes rest e), refl)
+span_behind (suc (suc (suc (suc (suc kind))))) bytes s rest k fits e = absurd (omega (arith, leb-true _ _ (to_zero 4 (suc (suc (suc (suc (suc kind))))) k)))
 
 span_spelled : (bytes : List ℕ) (s : Span) (rest : List ℕ) → IsTrue (are_bytes bytes) → a_span bytes ≡ Got s rest → (bytes ≡ span_bytes s ++ rest) × IsTrue (has_span_bytes s)
 span_spelled bytes v rest fits e =
-    let s = step_of (passing (is_from_to 0 3) a_byte bytes) a_span_of v rest e in
-    let b = byte_in_spelled (is_from_to 0 3) bytes s.value s.left s.first in
+    let s = step_of (passing (is_from_to 0 4) a_byte bytes) a_span_of v rest e in
+    let b = byte_in_spelled (is_from_to 0 4) bytes s.value s.left s.first in
     let t = span_behind s.value s.left v rest b.1 (rest_bytes bytes (s.value ∷ []) s.left b.0 fits) s.second in
     (b.0 ∙ t.0, t.1)
 

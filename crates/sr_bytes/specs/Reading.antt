@@ -3,10 +3,10 @@ use Rattle.std.specs.Prelude.{ℕ, zero, suc, ℤ, int_le, Bool, true, not, nat_
 use Rattle.std.specs.Int.{Width, w16, w32, w64, byte_len, from_be_bytes, cast_signed}
 use Rattle.std.specs.Str.{is_utf8}
 use Rattle.sr_cell.specs.declared.cell.Cell.{Cell}
-use Rattle.sr_cell.specs.declared.cell.Cell.TheVariants.{Num, Str}
+use Rattle.sr_cell.specs.declared.cell.Cell.TheVariants.{Num, Str, Null as NullCell}
 use Rattle.sr_cell.specs.Cells.{Row, text_le}
 use Rattle.sr_box.specs.declared.span.Span.{Span}
-use Rattle.sr_box.specs.declared.span.Span.TheVariants.{Full, Nums, Strs}
+use Rattle.sr_box.specs.declared.span.Span.TheVariants.{Full, Nums, Strs, Null}
 use Rattle.sr_box.specs.Points.{Rect}
 use Rattle.sr_bytes.specs.Spelling.{is_from_to}
 
@@ -70,17 +70,28 @@ a_text low high test = do
   n ← passing (is_from_to low high) a_byte
   bytes_that test n
 
-abbrev pub a_cell_of : ℕ → Reader Cell
-a_cell_of zero = do
+abbrev pub a_key_of : ℕ → Reader Cell
+a_key_of zero = do
   n ← a_signed
   give (Num n)
-a_cell_of (suc kind) = do
+a_key_of (suc kind) = do
   text ← a_text 0 120 is_utf8
   give (Str text)
 
+-- a key is never Null
+abbrev pub a_key : Reader Cell
+a_key = do
+  kind ← passing (is_from_to 0 1) a_byte
+  a_key_of kind
+
+abbrev pub a_cell_of : ℕ → Reader Cell
+a_cell_of zero = a_key_of 0
+a_cell_of (suc zero) = a_key_of 1
+a_cell_of (suc (suc kind)) = give NullCell
+
 abbrev pub a_cell : Reader Cell
 a_cell = do
-  kind ← passing (is_from_to 0 1) a_byte
+  kind ← passing (is_from_to 0 2) a_byte
   a_cell_of kind
 
 abbrev pub a_row : Reader Row
@@ -106,13 +117,14 @@ a_span_of (suc (suc zero)) = do
   lo ← a_text 0 121 any_bytes
   hi ← passing (λ hi. not (text_le hi lo)) (a_text 0 121 any_bytes)
   give (Strs lo (Some hi))
-a_span_of (suc (suc (suc kind))) = do
-  lo ← a_text 1 121 any_bytes
+a_span_of (suc (suc (suc zero))) = do
+  lo ← a_text 0 121 any_bytes
   give (Strs lo None)
+a_span_of (suc (suc (suc (suc kind)))) = give Null
 
 abbrev pub a_span : Reader Span
 a_span = do
-  kind ← passing (is_from_to 0 3) a_byte
+  kind ← passing (is_from_to 0 4) a_byte
   a_span_of kind
 
 abbrev pub a_rect : Reader Rect

@@ -4,11 +4,11 @@ use Rattle.std.specs.Int.{w16, w32, w64, to_be_bytes, cast_unsigned}
 use Rattle.std.specs.List.{flat_map, list_all}
 use Rattle.std.specs.Str.{is_utf8}
 use Rattle.sr_cell.specs.declared.cell.Cell.{Cell}
-use Rattle.sr_cell.specs.declared.cell.Cell.TheVariants.{Num, Str}
-use Rattle.sr_cell.specs.Cells.{Row, text_le}
+use Rattle.sr_cell.specs.declared.cell.Cell.TheVariants.{Num, Str, Null as NullCell}
+use Rattle.sr_cell.specs.Cells.{Row, text_le, is_null}
 use Rattle.sr_cell.specs.Columns.{are_bytes}
 use Rattle.sr_box.specs.declared.span.Span.{Span}
-use Rattle.sr_box.specs.declared.span.Span.TheVariants.{Full, Nums, Strs}
+use Rattle.sr_box.specs.declared.span.Span.TheVariants.{Full, Nums, Strs, Null}
 use Rattle.sr_box.specs.Points.{Rect}
 
 -- eight bytes, the highest first; a negative number as two's complement
@@ -34,6 +34,7 @@ text_bytes text = length text ∷ text
 abbrev pub cell_bytes : Cell → List ℕ
 cell_bytes (Num n) = 0 ∷ number_bytes n
 cell_bytes (Str text) = 1 ∷ text_bytes text
+cell_bytes NullCell = 2 ∷ []
 
 -- how many cells, and the cells
 abbrev pub row_bytes : Row → List ℕ
@@ -47,6 +48,7 @@ span_bytes Full = 0 ∷ []
 span_bytes (Nums lo hi) = 1 ∷ number_bytes lo ++ number_bytes hi
 span_bytes (Strs lo (Some hi)) = 2 ∷ text_bytes lo ++ text_bytes hi
 span_bytes (Strs lo None) = 3 ∷ text_bytes lo
+span_bytes Null = 4 ∷ []
 
 abbrev pub rect_bytes : Rect → List ℕ
 rect_bytes rect = length rect ∷ flat_map span_bytes rect
@@ -67,6 +69,11 @@ is_number (negsuc n) = nat_lt n (2 ^ 63)
 abbrev pub has_cell_bytes : Cell → Bool
 has_cell_bytes (Num n) = is_number n
 has_cell_bytes (Str text) = nat_le (length text) 120 && is_utf8 text
+has_cell_bytes NullCell = true
+
+-- a key is never Null
+abbrev pub has_key_bytes : Cell → Bool
+has_key_bytes key = not (is_null key) && has_cell_bytes key
 
 abbrev pub has_row_bytes : Row → Bool
 has_row_bytes row = is_from_to 1 12 (length row) && list_all has_cell_bytes row
@@ -83,7 +90,8 @@ abbrev pub has_span_bytes : Span → Bool
 has_span_bytes Full = true
 has_span_bytes (Nums lo hi) = is_number lo && is_number hi && int_le lo hi
 has_span_bytes (Strs lo (Some hi)) = is_bound lo && is_bound hi && not (text_le hi lo)
-has_span_bytes (Strs lo None) = is_bound lo && not (text_le lo [])
+has_span_bytes (Strs lo None) = is_bound lo
+has_span_bytes Null = true
 
 abbrev pub has_rect_bytes : Rect → Bool
 has_rect_bytes rect = is_from_to 1 12 (length rect) && list_all has_span_bytes rect

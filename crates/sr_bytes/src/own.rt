@@ -19,6 +19,7 @@ impl<'a> CellView<'a> {
         match self {
             CellView::Num(number) => Ok(Cell::Num(*number)),
             CellView::Str(text) => Ok(Cell::Str(Text::of(alloc, text)?)),
+            CellView::Null => Ok(Cell::Null),
         }
     }
 }
@@ -47,6 +48,7 @@ impl<'a> SpanView<'a> {
                 lo: bytes_of(alloc, lo)?,
                 hi: None,
             }),
+            SpanView::Null => Ok(Span::Null),
         }
     }
 }

@@ -1,7 +1,7 @@
 //! Cells, rows, spans and rects in the bytes that spell them.
 ghost use Rattle.std.specs.Prelude.{◌≡◌, ℕ, List, [], ◌++◌, option_to_list, IfNone};
 ghost use Rattle.std.specs.Option.{option_map};
-ghost use Rattle.sr_bytes.specs.Reading.{a_cell, a_row, some_rows, a_span, a_span_of, a_rect, some_rects, many, items};
+ghost use Rattle.sr_bytes.specs.Reading.{a_cell, a_key, a_row, some_rows, a_span, a_span_of, a_rect, some_rects, many, items};
 ghost use Rattle.sr_bytes.specs.Views.{Reads, cell_of, span_of};
 
 use crate::cursor::{BadField, Cursor};
@@ -31,6 +31,7 @@ const RECTS: u32 = 16_384;
 pub enum CellView<'a> {
     Num(i64),
     Str(&'a str),
+    Null,
 }
 
 /// A span.
@@ -39,6 +40,7 @@ pub enum SpanView<'a> {
     Full,
     Nums { lo: i64, hi: i64 },
     Strs { lo: &'a [u8], hi: Option<&'a [u8]> },
+    Null,
 }
 
 /// The cells that are left of a row.
@@ -166,6 +168,17 @@ impl<'a> Cursor<'a> {
     pub fn cell(&mut self) -> Result<CellView<'a>, BadField>
         ensures { Reads cell_of result self.new (a_cell self.old) }
     {
+        match self.byte_in(0, 2)? {
+            0 => Ok(CellView::Num(self.i64()?)),
+            1 => Ok(CellView::Str(self.text(CELL_BYTES)?)),
+            _ => Ok(CellView::Null),
+        }
+    }
+
+    /// A key, which is never Null.
+    pub fn key(&mut self) -> Result<CellView<'a>, BadField>
+        ensures { Reads cell_of result self.new (a_key self.old) }
+    {
         match self.byte_in(0, 1)? {
             0 => Ok(CellView::Num(self.i64()?)),
             _ => Ok(CellView::Str(self.text(CELL_BYTES)?)),
@@ -202,14 +215,15 @@ impl<'a> Cursor<'a> {
     pub fn span(&mut self) -> Result<SpanView<'a>, BadField>
         ensures { Reads span_of result self.new (a_span self.old) }
     {
-        match self.byte_in(0, 3)? {
+        match self.byte_in(0, 4)? {
             0 => Ok(SpanView::Full),
             1 => self.numbers(),
             2 => self.texts(),
-            _ => Ok(SpanView::Strs {
-                lo: self.bytes_in(1, BOUND_BYTES)?,
+            3 => Ok(SpanView::Strs {
+                lo: self.bytes_in(0, BOUND_BYTES)?,
                 hi: None,
             }),
+            _ => Ok(SpanView::Null),
         }
     }
 

@@ -5,8 +5,8 @@
 ghost use Rattle.std.specs.Prelude.{◌≡◌, ◌++◌, ◌<◌, ◌^◌, true, length, IsTrue, OnOk, OnErr};
 ghost use Rattle.std.specs.Str.{is_utf8};
 ghost use Rattle.sr_cell.specs.Columns.{are_bytes};
-ghost use Rattle.sr_bytes.specs.Spelling.{number_bytes, long_bytes, count_bytes, short_count_bytes, text_bytes, cell_bytes, row_bytes, rows_bytes, span_bytes, rect_bytes, rects_bytes, has_cell_bytes, has_row_bytes, have_rows_bytes, has_span_bytes, has_rect_bytes, have_rects_bytes};
-ghost use Rattle.sr_bytes.specs.Writing.{IsBehind, may_write_cell, may_write_row, may_write_rows, may_write_span, may_write_rect, may_write_rects};
+ghost use Rattle.sr_bytes.specs.Spelling.{number_bytes, long_bytes, count_bytes, short_count_bytes, text_bytes, cell_bytes, row_bytes, rows_bytes, span_bytes, rect_bytes, rects_bytes, has_cell_bytes, has_key_bytes, has_row_bytes, have_rows_bytes, has_span_bytes, has_rect_bytes, have_rects_bytes};
+ghost use Rattle.sr_bytes.specs.Writing.{IsBehind, may_write_cell, may_write_key, may_write_row, may_write_rows, may_write_span, may_write_rect, may_write_rects};
 
 use sr_box::rect::Rect;
 use sr_box::span::Span;
@@ -89,7 +89,18 @@ pub fn push_cell(out: &mut Bytes, cell: &Cell) -> Result<(), NoMemory>
             out.push(1)?;
             push_text(out, text.as_bytes())
         }
+        Cell::Null => out.push(2),
     }
+}
+
+/// Puts the bytes of a key, which is never Null, behind the others.
+pub fn push_key(out: &mut Bytes, key: &Cell) -> Result<(), NoMemory>
+    requires { IsTrue (may_write_key key.now) }
+    ensures written { OnOk result (out.new ≡ out.old ++ cell_bytes key.now) }
+    ensures spelled { OnOk result (IsTrue (has_key_bytes key.now)) }
+    ensures behind { OnErr result (IsBehind out.old out.new) }
+{
+    push_cell(out, key)
 }
 
 /// Puts the bytes of a row behind the others.
@@ -143,6 +154,7 @@ pub fn push_span(out: &mut Bytes, span: &Span) -> Result<(), NoMemory>
             out.push(3)?;
             push_text(out, lo.as_slice())
         }
+        Span::Null => out.push(4),
     }
 }
 

@@ -160,7 +160,7 @@ cells-fit-short attrs c (column ∷ columns) (v ∷ row) fits =
   where
     go : (b : Bool) → (if b then takes_cell column v && cells_fit attrs (c + 1) columns row else cells_fit attrs (c + 1) columns (v ∷ row)) ≡ true
         → (cells_fit attrs (c + 1) columns row ≡ true → is_short row ≡ true) → (cells_fit attrs (c + 1) columns (v ∷ row) ≡ true → is_short (v ∷ row) ≡ true) → is_short (v ∷ row) ≡ true
-    go true fits rest all = let s = and_parts (takes_cell column v) (cells_fit attrs (c + 1) columns row) fits in both_true (cell-short column.kind column.lo column.hi v s.0) (rest s.1)
+    go true fits rest all = let s = and_parts (takes_cell column v) (cells_fit attrs (c + 1) columns row) fits in both_true (cell-short column.kind column.lo column.hi column.nullable v s.0) (rest s.1)
     go false fits rest all = all fits
 
 asked-short : (schema : List Table) (ask : AskPart) (rows : List Row) → fit_ask schema ask rows ≡ true → list_all is_short rows ≡ true

@@ -4,7 +4,7 @@ use Rattle.std.specs.Prelude.{codes, decimal}
 use Rattle.sr_generate.specs.Script.{line_feed}
 use Rattle.sr_cell.specs.declared.fault.Fault.{Fault}
 use Rattle.sr_cell.specs.declared.fault.Why.{Why}
-use Rattle.sr_cell.specs.declared.fault.Why.TheVariants.{LongText, BadToken, Grammar, Deep, UnknownTable, UnknownColumn, Ambiguous, WrongType, OutOfDomain, NotKeyJoin, Repeated, WrongCount, Mixed, TooWide, TooManyTables, NotAWrite, NotAQuery, DuplicateKey, DomainCell, LongCell, KeyChange, TableFull, TooManyChanges, DuplicateName, TooManyColumns, NoKey, BadDomain, BadHeader, BadRecord, BadNumber, BadUtf8}
+use Rattle.sr_cell.specs.declared.fault.Why.TheVariants.{LongText, BadToken, Grammar, Deep, UnknownTable, UnknownColumn, Ambiguous, WrongType, OutOfDomain, NotKeyJoin, Repeated, WrongCount, Mixed, TooWide, TooManyTables, NotAWrite, NotAQuery, DuplicateKey, DomainCell, LongCell, KeyChange, TableFull, TooManyChanges, DuplicateName, TooManyColumns, NoKey, BadDomain, BadHeader, BadRecord, BadNumber, BadUtf8, BadNull, NullCell}
 use Rattle.sr_script.specs.TraceText.{why_text}
 use Rattle.sr_cli.specs.Errors.{load_text}
 
@@ -49,6 +49,8 @@ by_reason table at BadHeader other = refl
 by_reason table at BadRecord other = refl
 by_reason table at BadNumber other = refl
 by_reason table at BadUtf8 other = refl
+by_reason table at BadNull other = refl
+by_reason table at NullCell other = refl
 
 pub reason_text : (table : List ℕ) (fault : Fault) → fault.why ≢ UnknownTable
     → load_text table fault ≡ codes "load " ++ (table ++ (codes " " ++ (decimal fault.at ++ (codes " " ++ (why_text fault.why ++ line_feed)))))

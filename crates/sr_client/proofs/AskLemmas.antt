@@ -12,9 +12,10 @@ use Rattle.sr_cell.specs.Attrs.{has_column}
 use Rattle.sr_cell.specs.Cells.{Row}
 use Rattle.sr_cell.specs.Columns.{table_at, is_point}
 use Rattle.sr_box.specs.Points.{Rect, Points, in_any, rect_fits, constrains, constrained, constrains_only, AreSame, HasPoint, HasNoPoint, IsEssential}
-use Rattle.sr_box.specs.declared.span.Span.TheVariants.{Full, Nums, Strs}
+use Rattle.sr_box.specs.declared.span.Span.TheVariants.{Full, Nums, Strs, Null}
 use Rattle.sr_union.specs.Free.{span_at}
-use Rattle.sr_union.specs.Grid.{have_first, AreCutFrom}
+use Rattle.sr_box.specs.Corners.{have_first}
+use Rattle.sr_union.specs.Grid.{AreCutFrom}
 use Rattle.sr_union.proofs.Free.{constrained-is}
 use Rattle.sr_union.proofs.Low.{has_point}
 use Rattle.sr_trim.specs.Left.{left_over, is_constrained}
@@ -128,9 +129,11 @@ only-needed attrs n c [] only lacks = refl
 only-needed attrs n zero (Full ∷ r) only lacks = refl
 only-needed attrs n zero (Nums lo hi ∷ r) only lacks = absurd (let e : has_column attrs (n + 0) ≡ has_column attrs n = ap (has_column attrs) (omega arith) in grind (arith, e, only, lacks))
 only-needed attrs n zero (Strs lo hi ∷ r) only lacks = absurd (let e : has_column attrs (n + 0) ≡ has_column attrs n = ap (has_column attrs) (omega arith) in grind (arith, e, only, lacks))
+only-needed attrs n zero (Null ∷ r) only lacks = absurd (let e : has_column attrs (n + 0) ≡ has_column attrs n = ap (has_column attrs) (omega arith) in grind (arith, e, only, lacks))
 only-needed attrs n (suc c) (Full ∷ r) only lacks = only-needed attrs (n + 1) c r only (ap (has_column attrs) (omega arith) ∙ lacks)
 only-needed attrs n (suc c) (Nums lo hi ∷ r) only lacks = only-needed attrs (n + 1) c r (grind (arith, only)) (ap (has_column attrs) (omega arith) ∙ lacks)
 only-needed attrs n (suc c) (Strs lo hi ∷ r) only lacks = only-needed attrs (n + 1) c r (grind (arith, only)) (ap (has_column attrs) (omega arith) ∙ lacks)
+only-needed attrs n (suc c) (Null ∷ r) only lacks = only-needed attrs (n + 1) c r (grind (arith, only)) (ap (has_column attrs) (omega arith) ∙ lacks)
 
 none-needed : (attrs c : ℕ) (rects : List Rect) → list_all (constrains_only attrs 0) rects ≡ true → has_column attrs c ≡ false → is_constrained c rects ≡ false
 none-needed attrs c [] only lacks = refl

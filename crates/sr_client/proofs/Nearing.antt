@@ -10,7 +10,8 @@ use Rattle.sr_cell.specs.Cells.{Row}
 use Rattle.sr_cell.specs.Columns.{is_point}
 use Rattle.sr_box.specs.Points.{Rect, times, in_any, rect_fits}
 use Rattle.sr_union.specs.Pieces.{near}
-use Rattle.sr_union.specs.Grid.{grid, have_first, AreCutFrom}
+use Rattle.sr_box.specs.Corners.{have_first}
+use Rattle.sr_union.specs.Grid.{grid, AreCutFrom}
 use Rattle.sr_union.proofs.Count.{length-grid}
 use Rattle.sr_union.proofs.Parts.{are_part}
 use Rattle.sr_union.proofs.Meets.{near-in, near-are, near-fits}

@@ -3,7 +3,7 @@ use Rattle.std.proofs.Common.{◌≡◌, ℕ, true, List, ◌++◌, ap, subst, m
 use Rattle.sr_cell.specs.declared.cause.Cause.TheVariants.{Absorbed}
 use Rattle.sr_cell.specs.declared.table.Table.{Table}
 use Rattle.sr_cell.specs.Columns.{table_at}
-use Rattle.sr_union.specs.Grid.{have_first}
+use Rattle.sr_box.specs.Corners.{have_first}
 use Rattle.sr_history.specs.declared.mark.Mark.{Mark}
 use Rattle.sr_history.specs.Marks.{is_held, with_marks}
 use Rattle.sr_history.specs.Classes.{Numbered, stamp}

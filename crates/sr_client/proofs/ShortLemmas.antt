@@ -8,7 +8,7 @@ use Rattle.std.proofs.lemmas.List.Folds.{list_all-append}
 use Rattle.std.proofs.lemmas.List.Concat.{flat_map-cons}
 use Rattle.std.proofs.lemmas.Grind.{flat_map-append}
 use Rattle.sr_cell.specs.declared.cell.Cell.{Cell}
-use Rattle.sr_cell.specs.declared.cell.Cell.TheVariants.{Str}
+use Rattle.sr_cell.specs.declared.cell.Cell.TheVariants.{Str, Null as NullCell}
 use Rattle.sr_cell.specs.declared.table.Column.{Column}
 use Rattle.sr_cell.specs.declared.table.Kind.{Kind}
 use Rattle.sr_cell.specs.declared.table.Kind.TheVariants.{Num as Numbers, Str as Texts}
@@ -17,9 +17,10 @@ use Rattle.sr_cell.specs.Cells.{cell_eq}
 use Rattle.sr_cell.specs.Columns.{are_bytes}
 use Rattle.sr_cell.proofs.Order.{cell_eq-sound, cell_eq-refl}
 use Rattle.sr_box.specs.declared.span.Span.{Span}
-use Rattle.sr_box.specs.declared.span.Span.TheVariants.{Full, Nums, Strs}
+use Rattle.sr_box.specs.declared.span.Span.TheVariants.{Full, Nums, Strs, Null}
 use Rattle.sr_box.specs.Points.{Rect, rect_fits}
 use Rattle.sr_box.specs.Spans.{fits_kind, is_below, is_whole, end_bytes}
+use Rattle.sr_box.specs.Corners.{null_cut}
 use Rattle.sr_union.specs.Grid.{is_among, has_cut}
 use Rattle.sr_bytes.specs.Writing.{may_write_span, may_write_rect}
 use Rattle.sr_bytes.proofs.Numbers.{from-to}
@@ -89,8 +90,8 @@ among-short (u ∷ vs) v all among =
 
 -- ---- spans
 
-abbrev CutsShort : Kind → ℤ → ℤ → Span → Type 0
-CutsShort k low high s = (v : Cell) → has_cut k low high s v ≡ true → is_short 121 v ≡ true
+abbrev CutsShort : Kind → ℤ → ℤ → Bool → Span → Type 0
+CutsShort k low high nullable s = (v : Cell) → has_cut k low high nullable s v ≡ true → is_short 121 v ≡ true
 
 first-is : (v : Cell) (vs : List Cell) → is_among (v ∷ vs) v ≡ true
 first-is v vs = rw (cell_eq-refl v) refl
@@ -102,19 +103,26 @@ later-is u v vs among = go (cell_eq u v)
     go true = refl
     go false = among
 
-span-may : (k : Kind) (low high : ℤ) (s : Span) → fits_kind k low high s ≡ true → CutsShort k low high s → may_write_span s ≡ true
-span-may k low high Full fits short = refl
-span-may Numbers low high (Nums lo hi) fits short = let s = and_parts (int_le low lo && int_le lo hi) _ (and_parts (int_le low lo && int_le lo hi && int_le hi high) _ fits).0 in (and_parts (int_le low lo) (int_le lo hi) (and_parts (int_le low lo && int_le lo hi) (int_le hi high) (and_parts (int_le low lo && int_le lo hi && int_le hi high) _ fits).0).0).1
-span-may Numbers low high (Strs lo hi) fits short = absurd (cc)
-span-may Texts low high (Nums lo hi) fits short = absurd (cc)
-span-may Texts low high (Strs [] None) fits short = absurd (let none = (and_parts (are_bytes [] && end_bytes None && is_below [] None) (not (is_whole [] None)) fits).1 in cc)
-span-may Texts low high (Strs (b ∷ lo) None) fits short = both_true (short (Str (b ∷ lo)) (first-is (Str (b ∷ lo)) [])) refl
-span-may Texts low high (Strs [] (Some hi)) fits short =
+past-null : (nullable : Bool) (v : Cell) (vs : List Cell) → is_among vs v ≡ true → is_among (null_cut nullable ++ vs) v ≡ true
+past-null true v vs among = later-is NullCell v vs among
+past-null false v vs among = among
+
+span-may : (k : Kind) (low high : ℤ) (nullable : Bool) (s : Span) → fits_kind k low high nullable s ≡ true → CutsShort k low high nullable s → may_write_span s ≡ true
+span-may k low high nullable Full fits short = refl
+span-may k low high nullable Null fits short = refl
+span-may Numbers low high nullable (Nums lo hi) fits short = let s = and_parts (int_le low lo && int_le lo hi) _ (and_parts (int_le low lo && int_le lo hi && int_le hi high) _ fits).0 in (and_parts (int_le low lo) (int_le lo hi) (and_parts (int_le low lo && int_le lo hi) (int_le hi high) (and_parts (int_le low lo && int_le lo hi && int_le hi high) _ fits).0).0).1
+span-may Numbers low high nullable (Strs lo hi) fits short = absurd (cc)
+span-may Texts low high nullable (Nums lo hi) fits short = absurd (cc)
+span-may Texts low high nullable (Strs [] None) fits short = refl
+span-may Texts low high nullable (Strs (b ∷ lo) None) fits short = short (Str (b ∷ lo)) (past-null nullable (Str (b ∷ lo)) (Str (b ∷ lo) ∷ []) (first-is (Str (b ∷ lo)) []))
+span-may Texts low high nullable (Strs [] (Some hi)) fits short =
     let below = (and_parts (are_bytes [] && end_bytes (Some hi)) (is_below [] (Some hi)) (and_parts (are_bytes [] && end_bytes (Some hi) && is_below [] (Some hi)) _ fits).0).1 in
-    both_true (both_true refl (short (Str hi) (first-is (Str hi) []))) below
-span-may Texts low high (Strs (b ∷ lo) (Some hi)) fits short =
+    both_true (both_true refl (short (Str hi) (past-null nullable (Str hi) (Str hi ∷ []) (first-is (Str hi) [])))) below
+span-may Texts low high nullable (Strs (b ∷ lo) (Some hi)) fits short =
     let below = (and_parts (are_bytes (b ∷ lo) && end_bytes (Some hi)) (is_below (b ∷ lo) (Some hi)) (and_parts (are_bytes (b ∷ lo) && end_bytes (Some hi) && is_below (b ∷ lo) (Some hi)) _ fits).0).1 in
-    both_true (both_true (short (Str (b ∷ lo)) (first-is (Str (b ∷ lo)) (Str hi ∷ []))) (short (Str hi) (later-is (Str (b ∷ lo)) (Str hi) (Str hi ∷ []) (first-is (Str hi) [])))) below
+    let cuts = Str (b ∷ lo) ∷ Str hi ∷ [] in
+    both_true (both_true (short (Str (b ∷ lo)) (past-null nullable (Str (b ∷ lo)) cuts (first-is (Str (b ∷ lo)) (Str hi ∷ []))))
+    (short (Str hi) (past-null nullable (Str hi) cuts (later-is (Str (b ∷ lo)) (Str hi) (Str hi ∷ []) (first-is (Str hi) []))))) below
 
 spans-may : (values : ℕ → List Cell) (c : ℕ) (columns : List Column) (r : Rect) → ((k : ℕ) → list_all (is_short 121) (values k) ≡ true) → CutsIn values c columns r → rect_fits columns r ≡ true
     → list_all may_write_span r ≡ true
@@ -122,15 +130,15 @@ spans-may values c [] [] short cuts fits = refl
 spans-may values c [] (s ∷ r) short cuts fits = absurd (cc)
 spans-may values c (column ∷ columns) [] short cuts fits = absurd (cc)
 spans-may values c (column ∷ columns) (s ∷ r) short cuts fits =
-    let p = and_parts (fits_kind column.kind column.lo column.hi s) (rect_fits columns r) fits in
-    both_true (span-may column.kind column.lo column.hi s p.0 (λ v cut. among-short (values c) v (short c) (cuts.0 v cut)))
+    let p = and_parts (fits_kind column.kind column.lo column.hi column.nullable s) (rect_fits columns r) fits in
+    both_true (span-may column.kind column.lo column.hi column.nullable s p.0 (λ v cut. among-short (values c) v (short c) (cuts.0 v cut)))
     (spans-may values (c + 1) columns r short cuts.1 p.1)
 
 fits-length : (columns : List Column) (r : Rect) → rect_fits columns r ≡ true → length r ≡ length columns
 fits-length [] [] fits = refl
 fits-length [] (s ∷ r) fits = absurd (cc)
 fits-length (column ∷ columns) [] fits = absurd (cc)
-fits-length (column ∷ columns) (s ∷ r) fits = ap (λ n. suc n) (fits-length columns r (and_parts (fits_kind column.kind column.lo column.hi s) (rect_fits columns r) fits).1)
+fits-length (column ∷ columns) (s ∷ r) fits = ap (λ n. suc n) (fits-length columns r (and_parts (fits_kind column.kind column.lo column.hi column.nullable s) (rect_fits columns r) fits).1)
 
 -- rects of a table that end only where tests of these queries do
 pub rects-may : (columns : List Column) (t : ℕ) (queries : List model.Query) (rects : List Rect) → 1 ≤ length columns → length columns ≤ 12 → HaveShortEnds queries

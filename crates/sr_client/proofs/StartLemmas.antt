@@ -1,5 +1,5 @@
 -- A client that starts from kept parts stands for the past of its start.
-use Rattle.std.proofs.Common.{◌≡◌, ℕ, ℤ, pos, ◌+◌, ◌≤◌, ◌+ℤ◌, Bool, true, false, not, List, [], ◌∷◌, ◌++◌, map, length, refl, sym, ◌∙◌, ap, subst, Some, None, arith, append-nil, append_assoc}
+use Rattle.std.proofs.Common.{◌≡◌, ℕ, ℤ, pos, ◌+◌, ◌≤◌, ◌+ℤ◌, Bool, true, false, not, List, [], ◌∷◌, ◌++◌, map, length, refl, sym, ◌∙◌, ap, subst, Option, Some, None, arith, append-nil, append_assoc}
 use Rattle.std.specs.Prelude.{◌&&◌, ◌||◌, ◌==◌, nat_le, int_lt, filter, flat_map, if◌then◌else◌}
 use Rattle.std.specs.List.{list_all, All, AllByRecursion, Contains}
 use Rattle.std.specs.Cmp.Derive.{both_true}
@@ -10,23 +10,24 @@ use Rattle.std.proofs.lemmas.List.Concat.{flat_map-cons}
 use Rattle.std.proofs.lemmas.List.Folds.{list_all-append}
 use Rattle.std.proofs.lemmas.List.Elements.{All-nil, All-cons, All-contains, All-head, All-tail, All-weaker, All-map, filter-append}
 use Rattle.sr_cell.specs.declared.cell.Cell.{Cell}
+use Rattle.sr_cell.specs.declared.cell.Cell.TheVariants.{Null as NullCell}
 use Rattle.sr_cell.specs.declared.table.Column.{Column}
 use Rattle.sr_cell.specs.declared.table.Kind.{Kind}
 use Rattle.sr_cell.specs.declared.table.Kind.TheVariants.{Num as Numbers, Str as Texts}
 use Rattle.sr_cell.specs.declared.table.Table.{Table}
-use Rattle.sr_cell.specs.Cells.{text_le}
+use Rattle.sr_cell.specs.Cells.{cell_eq, text_le}
 use Rattle.sr_cell.specs.Columns.{table_at}
 use Rattle.sr_box.specs.declared.span.Span.{Span}
-use Rattle.sr_box.specs.declared.span.Span.TheVariants.{Full, Nums, Strs}
+use Rattle.sr_box.specs.declared.span.Span.TheVariants.{Full, Nums, Strs, Null}
 use Rattle.sr_box.specs.Points.{Rect}
-use Rattle.sr_box.specs.Corners.{cuts_of, num_cut}
+use Rattle.sr_box.specs.Corners.{cuts_of, end_cut, null_cut, num_cut, text_cut}
 use Rattle.sr_union.specs.Grid.{is_among, first_cuts, others}
 use Rattle.sr_union.proofs.Cuts.{is_among-append}
 use Rattle.sr_bytes.specs.Spelling.{is_from_to}
 use Rattle.sr_bytes.specs.Writing.{may_write_span, may_write_rect}
 use Rattle.sr_lines.specs.Short.{is_short}
 use Rattle.sr_model.specs.Conditions.{Cond, Tests, Ge}
-use Rattle.sr_model.specs.Ends.{ends}
+use Rattle.sr_model.specs.Ends.{ends, places_of}
 use Rattle.sr_model.specs.Queries.{Part, Query}
 use Rattle.sr_history.specs.Ends.{CutsIn, part_ends, AllEndAmong}
 use Rattle.sr_history.specs.Load.{parts_on}
@@ -73,11 +74,12 @@ by-first values c column columns ((s ∷ r) ∷ rects) has rest = (
   by-first values c column columns rects (λ v later. has v (behind v later)) rest.1,
 )
   where
-    front : (v : Cell) → is_among (cuts_of column.kind column.lo column.hi s) v ≡ true → is_among (cuts_of column.kind column.lo column.hi s ++ first_cuts column rects) v ≡ true
-    front v h = let e = is_among-append (cuts_of column.kind column.lo column.hi s) (first_cuts column rects) v in grind (arith, e, h)
+    front : (v : Cell) → is_among (cuts_of column.kind column.lo column.hi column.nullable s) v ≡ true
+        → is_among (cuts_of column.kind column.lo column.hi column.nullable s ++ first_cuts column rects) v ≡ true
+    front v h = let e = is_among-append (cuts_of column.kind column.lo column.hi column.nullable s) (first_cuts column rects) v in grind (arith, e, h)
 
-    behind : (v : Cell) → is_among (first_cuts column rects) v ≡ true → is_among (cuts_of column.kind column.lo column.hi s ++ first_cuts column rects) v ≡ true
-    behind v h = let e = is_among-append (cuts_of column.kind column.lo column.hi s) (first_cuts column rects) v in grind (arith, e, h)
+    behind : (v : Cell) → is_among (first_cuts column rects) v ≡ true → is_among (cuts_of column.kind column.lo column.hi column.nullable s ++ first_cuts column rects) v ≡ true
+    behind v h = let e = is_among-append (cuts_of column.kind column.lo column.hi column.nullable s) (first_cuts column rects) v in grind (arith, e, h)
 
 own-cuts : (values : ℕ → List Cell) (c : ℕ) (columns : List Column) (rects : List Rect) → HasCuts values c columns rects → AllByRecursion (CutsIn values c columns) rects
 own-cuts values c [] rects has = no-columns values c rects
@@ -94,12 +96,20 @@ abbrev tests_ends : List Cond → ℕ → List Cell
 tests_ends tests c = flat_map (λ test. ends c test) tests
 
 -- a test of each value ends at it
-at-values : (c : ℕ) (vs : List Cell) → tests_ends (map (λ v. Tests c (Ge v)) vs) c ≡ vs
-at-values c [] = refl
-at-values c (v ∷ vs) =
+at-values : (c : ℕ) (vs : List Cell) (v : Cell) → is_among vs v ≡ true → is_among (tests_ends (map (λ v. Tests c (Ge v)) vs) c) v ≡ true
+at-values c [] v h = absurd cc
+at-values c (u ∷ vs) v h =
     let same : (c == c) ≡ true = grind (arith, nat_tests) in
-    flat_map-cons (λ test. ends c test) (Tests c (Ge v)) (map (λ v. Tests c (Ge v)) vs)
-    ∙ (ap (λ b. (if b then v ∷ [] else []) ++ tests_ends (map (λ v. Tests c (Ge v)) vs) c) same ∙ ap (λ rest. v ∷ rest) (at-values c vs))
+    let rest = tests_ends (map (λ v. Tests c (Ge v)) vs) c in
+    let all : tests_ends (map (λ v. Tests c (Ge v)) (u ∷ vs)) c ≡ NullCell ∷ u ∷ rest =
+    flat_map-cons (λ test. ends c test) (Tests c (Ge u)) (map (λ v. Tests c (Ge v)) vs) ∙ ap (λ b. (if b then places_of (Ge u) else []) ++ rest) same in
+    ap (λ ws. is_among ws v) all ∙ go (cell_eq NullCell v) (cell_eq u v) h (at-values c vs v)
+  where
+    go : (a b : Bool) → (b || is_among vs v) ≡ true → (is_among vs v ≡ true → is_among (tests_ends (map (λ v. Tests c (Ge v)) vs) c) v ≡ true)
+        → (a || (b || is_among (tests_ends (map (λ v. Tests c (Ge v)) vs) c) v)) ≡ true
+    go true b h ih = refl
+    go false true h ih = refl
+    go false false h ih = ih h
 
 -- of two lists of tests
 ends-apart : (k : ℕ) (front rest : List Cond) (v : Cell) → is_among (tests_ends (front ++ rest) k) v ≡ (is_among (tests_ends front k) v || is_among (tests_ends rest k) v)
@@ -108,7 +118,7 @@ ends-apart k front rest v = ap (λ vs. is_among vs v) (flat_map-append (λ test.
 ends-front : (c : ℕ) (vs : List Cell) (rest : List Cond) (v : Cell) → is_among vs v ≡ true → is_among (tests_ends (map (λ v. Tests c (Ge v)) vs ++ rest) c) v ≡ true
 ends-front c vs rest v h =
     let e = ends-apart c (map (λ v. Tests c (Ge v)) vs) rest v in
-    let own : is_among (tests_ends (map (λ v. Tests c (Ge v)) vs) c) v ≡ true = ap (λ ws. is_among ws v) (at-values c vs) ∙ h in
+    let own : is_among (tests_ends (map (λ v. Tests c (Ge v)) vs) c) v ≡ true = at-values c vs v h in
     grind (arith, e, own)
 
 ends-behind : (k : ℕ) (front rest : List Cond) (v : Cell) → is_among (tests_ends rest k) v ≡ true → is_among (tests_ends (front ++ rest) k) v ≡ true
@@ -180,25 +190,36 @@ start-end schema kept =
 
 -- ---- at short texts
 
-cuts-short : (k : Kind) (low high : ℤ) (s : Span) → may_write_span s ≡ true → list_all (is_short 121) (cuts_of k low high s) ≡ true
-cuts-short Numbers low high Full may = refl
-cuts-short Texts low high Full may = refl
-cuts-short Numbers low high (Strs lo hi) may = refl
-cuts-short Texts low high (Nums lo hi) may = refl
-cuts-short Numbers low high (Nums lo hi) may = by (int_lt low lo) (int_lt hi high)
+texts-short : (lo : List ℕ) (hi : Option (List ℕ)) → may_write_span (Strs lo hi) ≡ true → list_all (is_short 121) (text_cut lo ++ end_cut hi) ≡ true
+texts-short [] None may = refl
+texts-short (b ∷ lo) None may = both_true may refl
+texts-short [] (Some hi) may =
+    both_true (and_parts (nat_le 0 121) (nat_le (length hi) 121) (and_parts (nat_le 0 121 && nat_le (length hi) 121) (not (text_le hi [])) may).0).1 refl
+texts-short (b ∷ lo) (Some hi) may =
+    let two = and_parts (nat_le (length (b ∷ lo)) 121) (nat_le (length hi) 121) (and_parts (nat_le (length (b ∷ lo)) 121 && nat_le (length hi) 121) (not (text_le hi (b ∷ lo))) may).0 in
+    both_true two.0 (both_true two.1 refl)
+
+null-short : (nullable : Bool) (vs : List Cell) → list_all (is_short 121) vs ≡ true → list_all (is_short 121) (null_cut nullable ++ vs) ≡ true
+null-short true vs short = short
+null-short false vs short = short
+
+cuts-short : (k : Kind) (low high : ℤ) (nullable : Bool) (s : Span) → may_write_span s ≡ true → list_all (is_short 121) (cuts_of k low high nullable s) ≡ true
+cuts-short Numbers low high nullable Full may = refl
+cuts-short Texts low high nullable Full may = refl
+cuts-short Numbers low high nullable (Strs lo hi) may = refl
+cuts-short Texts low high nullable (Nums lo hi) may = refl
+cuts-short Numbers low high true Null may = refl
+cuts-short Numbers low high false Null may = refl
+cuts-short Texts low high true Null may = refl
+cuts-short Texts low high false Null may = refl
+cuts-short Texts low high nullable (Strs lo hi) may = null-short nullable (text_cut lo ++ end_cut hi) (texts-short lo hi may)
+cuts-short Numbers low high nullable (Nums lo hi) may = null-short nullable (num_cut (int_lt low lo) lo ++ num_cut (int_lt hi high) (hi +ℤ pos 1)) (by (int_lt low lo) (int_lt hi high))
   where
     by : (a b : Bool) → list_all (is_short 121) (num_cut a lo ++ num_cut b (hi +ℤ pos 1)) ≡ true
     by true true = refl
     by true false = refl
     by false true = refl
     by false false = refl
-cuts-short Texts low high (Strs [] None) may = refl
-cuts-short Texts low high (Strs (b ∷ lo) None) may = both_true (and_parts (nat_le (length (b ∷ lo)) 121) (not (text_le (b ∷ lo) [])) may).0 refl
-cuts-short Texts low high (Strs [] (Some hi)) may =
-    both_true (and_parts (nat_le 0 121) (nat_le (length hi) 121) (and_parts (nat_le 0 121 && nat_le (length hi) 121) (not (text_le hi [])) may).0).1 refl
-cuts-short Texts low high (Strs (b ∷ lo) (Some hi)) may =
-    let two = and_parts (nat_le (length (b ∷ lo)) 121) (nat_le (length hi) 121) (and_parts (nat_le (length (b ∷ lo)) 121 && nat_le (length hi) 121) (not (text_le hi (b ∷ lo))) may).0 in
-    both_true two.0 (both_true two.1 refl)
 
 abbrev may_write_spans : Rect → Bool
 may_write_spans r = list_all may_write_span r
@@ -208,8 +229,8 @@ firsts-short column [] may = refl
 firsts-short column ([] ∷ rects) may = firsts-short column rects may
 firsts-short column ((s ∷ r) ∷ rects) may =
     let two = and_parts (may_write_span s && may_write_spans r) (list_all may_write_spans rects) may in
-    list_all-append (is_short 121) (cuts_of column.kind column.lo column.hi s) (first_cuts column rects)
-    ∙ both_true (cuts-short column.kind column.lo column.hi s (and_parts (may_write_span s) (may_write_spans r) two.0).0) (firsts-short column rects two.1)
+    list_all-append (is_short 121) (cuts_of column.kind column.lo column.hi column.nullable s) (first_cuts column rects)
+    ∙ both_true (cuts-short column.kind column.lo column.hi column.nullable s (and_parts (may_write_span s) (may_write_spans r) two.0).0) (firsts-short column rects two.1)
 
 others-may : (rects : List Rect) → list_all may_write_spans rects ≡ true → list_all may_write_spans (others rects) ≡ true
 others-may [] may = refl
@@ -228,7 +249,7 @@ values-short c (v ∷ vs) short =
     let two = and_parts (is_short 121 v) (list_all (is_short 121) vs) short in
     ((λ k. go (c == k) two.0), values-short c vs two.1)
   where
-    go : (b : Bool) → is_short 121 v ≡ true → list_all (is_short 121) (if b then v ∷ [] else []) ≡ true
+    go : (b : Bool) → is_short 121 v ≡ true → list_all (is_short 121) (if b then places_of (Ge v) else []) ≡ true
     go true own = both_true own refl
     go false own = refl
 

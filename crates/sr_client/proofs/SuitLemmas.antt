@@ -16,8 +16,7 @@ use Rattle.sr_cell.specs.Cells.{Row, cell_at, cell_eq}
 use Rattle.sr_cell.specs.Columns.{table_at, is_point, in_column, takes_cell, fits_columns, is_value, are_values}
 use Rattle.sr_cell.proofs.Order.{cell_eq-sound}
 use Rattle.sr_cell.proofs.Columns.{takes-in, fits-point}
-use Rattle.sr_box.specs.Corners.{first_value}
-use Rattle.sr_union.specs.Grid.{have_first}
+use Rattle.sr_box.specs.Corners.{first_value, have_first}
 use Rattle.sr_message.specs.declared.message.AskPart.{AskPart}
 use Rattle.sr_message.specs.declared.message.Message.{Message}
 use Rattle.sr_message.specs.declared.message.Message.TheVariants.{Hello, Resume, Ask, Write, Welcome, Notice, Rows, Reply, Written, Refused, Lapse}
@@ -168,7 +167,7 @@ part-of attrs c (column ∷ columns) (v ∷ row) first fit values =
         → (p : Row) × (is_point (column ∷ columns) p ≡ true) × (project_from c attrs p ≡ v ∷ row)
     go true has fit with_own without =
         let more = with_own (second_so (takes_cell column v) (cells_fit attrs (c + 1) columns row) fit) in
-        let own = takes-in column.kind column.lo column.hi v (first_so (takes_cell column v) (cells_fit attrs (c + 1) columns row) fit) (first_so (is_value v) (are_values row) values) in
+        let own = takes-in column.kind column.lo column.hi column.nullable v (first_so (takes_cell column v) (cells_fit attrs (c + 1) columns row) fit) (first_so (is_value v) (are_values row) values) in
         (v ∷ more.0, and_from (in_column column v) (is_point columns more.0) own more.1, keep-one attrs c v more.0 row has more.2)
     go false lacks fit with_own without =
         let more = without fit in

@@ -15,7 +15,7 @@ fn know_cell(cell: &Cell)
     ensures { IsTrue (is_value cell.now) }
 {
     match cell {
-        Cell::Num(_) => {}
+        Cell::Num(_) | Cell::Null => {}
         Cell::Str(text) => know_bytes(text.as_str().as_bytes()),
     }
 }

@@ -5,7 +5,8 @@ ghost use Rattle.sr_cell.specs.Columns.{table_at};
 ghost use Rattle.sr_query.specs.Bound.{is_table};
 ghost use Rattle.sr_store.specs.Fitted.{IsViewOf};
 ghost use Rattle.sr_store.specs.Stores.{IsOfSchema};
-ghost use Rattle.sr_union.specs.Grid.{all_inner, have_first};
+ghost use Rattle.sr_box.specs.Corners.{have_first};
+ghost use Rattle.sr_union.specs.Grid.{all_inner};
 ghost use Rattle.sr_client.specs.Explaining.{victim_of, Fall};
 
 use sr_cell::list::{NoMemory, Seq};

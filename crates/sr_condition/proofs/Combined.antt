@@ -8,7 +8,7 @@ use Rattle.std.proofs.lemmas.List.{length-append}
 use Rattle.std.proofs.lemmas.List.Folds.{list_any-append, list_all-append}
 use Rattle.sr_cell.specs.declared.cell.Cell.{Cell}
 use Rattle.sr_cell.specs.declared.table.Column.{Column}
-use Rattle.sr_cell.specs.Cells.{Row}
+use Rattle.sr_cell.specs.Cells.{Row, cell_at}
 use Rattle.sr_box.specs.Corners.{cuts_of}
 use Rattle.sr_box.specs.Points.{Rect, in_rect, in_any, rect_fits, full_rect, times}
 use Rattle.sr_union.specs.Grid.{is_among, first_cuts, others, CutsAmong, AreCutFrom}
@@ -16,8 +16,9 @@ use Rattle.sr_union.specs.Pieces.{IsMeet}
 use Rattle.sr_union.proofs.Cuts.{is_among-append}
 use Rattle.sr_union.proofs.Times.{in_any-times}
 use Rattle.sr_union.proofs.Among.{AreCutFrom-fits}
-use Rattle.sr_model.specs.Conditions.{Cond, Conds, Not, none, more}
+use Rattle.sr_model.specs.Conditions.{Cond, Conds, Not, none, more, truth, truth_of_all, truth_of_any}
 use Rattle.sr_model.specs.Ends.{ends, all_ends}
+use Rattle.sr_model.proofs.Sides.{both-true, both-false, either-true, either-false, not-side}
 use Rattle.sr_query.specs.Binding.{cond_of}
 use Rattle.sr_query.specs.Bound.{EndsWithTests}
 use Rattle.sr_query.specs.Meant.{meant, members}
@@ -59,7 +60,7 @@ cuts-end : (n : ℕ) (c : Column) (columns : List Column) (a : Cond) (given : Li
 cuts-end n c columns a [] v h x = absurd (grind arith)
 cuts-end n c columns a ([] ∷ given) v h x = cuts-end n c columns a given v h.1 x
 cuts-end n c columns a ((s ∷ r) ∷ given) v h x =
-    let e = is_among-append (cuts_of c.kind c.lo c.hi s) (first_cuts c given) v in let m = h.0.0 v in let ih = cuts-end n c columns a given v h.1 in grind (arith, x, e, m, ih)
+    let e = is_among-append (cuts_of c.kind c.lo c.hi c.nullable s) (first_cuts c given) v in let m = h.0.0 v in let ih = cuts-end n c columns a given v h.1 in grind (arith, x, e, m, ih)
 
 others-end : (n : ℕ) (c : Column) (columns : List Column) (a : Cond) (given : List Rect) → AllByRecursion (EndsWithTests n (c ∷ columns) a) given → AllByRecursion (EndsWithTests (n + 1) columns a) (others given)
 others-end n c columns a [] h = tt
@@ -78,8 +79,8 @@ cut-ends columns a given (r ∷ rects) h k = (among-ends 0 columns a given r h k
 -- ---- what all say
 
 all-says : (plain : Bool) (c : Cond) (cs : Conds) (p : Row) → (says plain c p && says plain (all_of plain cs) p) ≡ says plain (all_of plain (more c cs)) p
-all-says true c cs p = refl
-all-says false c cs p = grind arith
+all-says true c cs p = sym (both-true (truth (cell_at p) c) (truth_of_all (cell_at p) cs))
+all-says false c cs p = sym (either-false (truth (cell_at p) c) (truth_of_any (cell_at p) cs))
 
 all-room : (plain : Bool) (c : Cond) (cs : Conds) → room plain c * room plain (all_of plain cs) ≡ room plain (all_of plain (more c cs))
 all-room true c cs = refl
@@ -133,8 +134,8 @@ any-other true c cs = other-ends false c cs
 any-other false c cs = other-ends true c cs
 
 any-says : (plain : Bool) (c : Cond) (cs : Conds) (p : Row) → (says plain c p || says plain (any_of plain cs) p) ≡ says plain (any_of plain (more c cs)) p
-any-says true c cs p = refl
-any-says false c cs p = grind arith
+any-says true c cs p = sym (either-true (truth (cell_at p) c) (truth_of_any (cell_at p) cs))
+any-says false c cs p = sym (both-false (truth (cell_at p) c) (truth_of_all (cell_at p) cs))
 
 any-room : (plain : Bool) (c : Cond) (cs : Conds) → room plain c + room plain (any_of plain cs) ≡ room plain (any_of plain (more c cs))
 any-room true c cs = refl
@@ -153,8 +154,7 @@ any-more columns plain c cs a b rects one rest is = subst (AreRects columns plai
 -- ---- NOT
 
 not-says : (plain : Bool) (c : Cond) (p : Row) → says (not plain) c p ≡ says plain (Not c) p
-not-says true c p = refl
-not-says false c p = grind arith
+not-says plain c p = sym (not-side plain (truth (cell_at p) c))
 
 not-room : (plain : Bool) (c : Cond) → room (not plain) c ≡ room plain (Not c)
 not-room true c = refl
@@ -185,3 +185,11 @@ join-step columns plain xs i k x a b any next l e one rest is =
 
 pub meet-init : (columns : List Column) (plain : Bool) (xs : List Condition) (rects : List Rect) → rects ≡ full_rect columns ∷ [] → AreRects columns plain (all_of plain (members (drop (length xs) xs))) rects
 meet-init columns plain xs rects is = subst (λ (cs : Conds). AreRects columns plain (all_of plain cs) rects) (sym (no_members xs)) (all-none columns plain rects is)
+
+any-none : (columns : List Column) (plain : Bool) → AreRects columns plain (any_of plain none) []
+any-none columns true = record { fits = refl; points = λ p h. refl; few = omega arith; ends = tt }
+any-none columns false = record { fits = refl; points = λ p h. refl; few = omega arith; ends = tt }
+
+pub join-init : (columns : List Column) (plain : Bool) (xs : List Condition) (rects : List Rect) → rects ≡ [] → AreRects columns plain (any_of plain (members (drop (length xs) xs))) rects
+join-init columns plain xs rects is = subst (AreRects columns plain (any_of plain (members (drop (length xs) xs)))) (sym is)
+    (subst (λ (cs : Conds). AreRects columns plain (any_of plain cs) []) (sym (no_members xs)) (any-none columns plain))

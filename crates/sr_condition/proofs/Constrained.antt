@@ -13,7 +13,7 @@ use Rattle.sr_box.specs.declared.span.Span.TheVariants.{Full}
 use Rattle.sr_box.specs.Spans.{in_span, span_fits}
 use Rattle.sr_box.specs.Points.{Rect, in_rect, in_any, rect_fits, full_rect}
 use Rattle.sr_model.specs.Conditions.{Cond, Test, Tests}
-use Rattle.sr_model.specs.Ends.{test_ends, ends}
+use Rattle.sr_model.specs.Ends.{places_of, ends}
 use Rattle.sr_model.specs.Width.{test_width}
 use Rattle.sr_union.proofs.SpanCuts.{no_cut-full}
 use Rattle.sr_query.specs.Bound.{EndsWithTests}
@@ -34,7 +34,7 @@ full-fits (c ∷ columns) = full-fits columns
 
 pub full-ends : (n : ℕ) (columns : List Column) (condition : Cond) → EndsWithTests n columns condition (full_rect columns)
 full-ends n [] condition = tt
-full-ends n (c ∷ columns) condition = ((λ v h. let e = no_cut-full c.kind c.lo c.hi v in absurd (grind (arith, e))), full-ends (n + 1) columns condition)
+full-ends n (c ∷ columns) condition = ((λ v h. let e = no_cut-full c.kind c.lo c.hi c.nullable v in absurd (grind (arith, e))), full-ends (n + 1) columns condition)
 
 -- ---- with one constrained column
 
@@ -55,7 +55,7 @@ with-ends n k [] c s d condition e l h = absurd (omega arith)
 with-ends n k (column ∷ columns) zero s d condition e l h =
     let same : k ≡ n = omega arith in (subst (λ (m : ℕ). EndsAt column (ends m condition) s) same h, full-ends (n + 1) columns condition)
 with-ends n k (column ∷ columns) (suc c) s d condition e l h =
-    ((λ v x. let f = no_cut-full column.kind column.lo column.hi v in absurd (grind (arith, f))), with-ends (n + 1) k columns c s d condition (omega arith) (omega arith) h)
+    ((λ v x. let f = no_cut-full column.kind column.lo column.hi column.nullable v in absurd (grind (arith, f))), with-ends (n + 1) k columns c s d condition (omega arith) (omega arith) h)
 
 -- a point of the table has a value of each column
 value-in : (columns : List Column) (c : ℕ) (p : Row) (d : Column) → is_point columns p ≡ true → c < length columns → in_column (slice_index_or columns c d) (cell_at p c) ≡ true
@@ -74,14 +74,14 @@ all-fit : (columns : List Column) (c : ℕ) (spans : List Span) (d : Column) →
 all-fit columns c [] d l f = refl
 all-fit columns c (s ∷ spans) d l f = let ih = all-fit columns c spans d l (grind arith) in let one = with-fits columns c s d l (grind arith) in grind (arith, ih, one)
 
-own-ends : (c : ℕ) (t : Test) → ends c (Tests c t) ≡ test_ends t
+own-ends : (c : ℕ) (t : Test) → ends c (Tests c t) ≡ places_of t
 own-ends c t = go (c == c) (grind (arith, nat_tests))
   where
-    go : (b : Bool) → b ≡ true → (if b then test_ends t else []) ≡ test_ends t
+    go : (b : Bool) → b ≡ true → (if b then places_of t else []) ≡ places_of t
     go true e = refl
     go false e = absurd (cc)
 
-all-end : (columns : List Column) (c : ℕ) (spans : List Span) (d : Column) (t : Test) → c < length columns → AllByRecursion (EndsAt (slice_index_or columns c d) (test_ends t)) spans
+all-end : (columns : List Column) (c : ℕ) (spans : List Span) (d : Column) (t : Test) → c < length columns → AllByRecursion (EndsAt (slice_index_or columns c d) (places_of t)) spans
     → AllByRecursion (EndsWithTests 0 columns (Tests c t)) (map (rect_with columns c) spans)
 all-end columns c [] d t l h = tt
 all-end columns c (s ∷ spans) d t l h =
@@ -92,11 +92,10 @@ same-length f [] = refl
 same-length f (x ∷ xs) = let ih = same-length f xs in omega (arith, ih)
 
 test-says : (plain : Bool) (c : ℕ) (t : Test) (p : Row) → says_test plain t (cell_at p c) ≡ says plain (Tests c t) p
-test-says true c t p = refl
-test-says false c t p = refl
+test-says plain c t p = refl
 
 test-rects : (columns : List Column) (c : ℕ) (d : Column) (plain : Bool) (t : Test) (spans : List Span) (rects : List Rect) → c < length columns → rects ≡ map (rect_with columns c) spans
-    → AreSpans (slice_index_or columns c d) (says_test plain t) (test_width plain t) (test_ends t) spans → AreRects columns plain (Tests c t) rects
+    → AreSpans (slice_index_or columns c d) (says_test plain t) (test_width plain t) (places_of t) spans → AreRects columns plain (Tests c t) rects
 test-rects columns c d plain t spans rects l is are = subst (AreRects columns plain (Tests c t)) (sym is) (record {
   fits = all-fit columns c spans d l are.fits;
   points = λ p h. all-in columns c spans p h l ∙ (are.points (cell_at p c) (value-in columns c p d h l) ∙ test-says plain c t p);
@@ -106,10 +105,10 @@ test-rects columns c d plain t spans rects l is are = subst (AreRects columns pl
 
 -- of a column of a slice that holds the columns
 pub test-rects-of : (columns cs : List Column) (c : ℕ) (column : Column) (plain : Bool) (t : Test) (spans : List Span) (rects : List Rect) → cs ≡ columns → c < length columns → column ≡ slice_index_or cs c column
-    → AreSpans column (says_test plain t) (test_width plain t) (test_ends t) spans → rects ≡ map (rect_with cs c) spans → AreRects columns plain (Tests c t) rects
+    → AreSpans column (says_test plain t) (test_width plain t) (places_of t) spans → rects ≡ map (rect_with cs c) spans → AreRects columns plain (Tests c t) rects
 test-rects-of columns cs c column plain t spans rects same l at are is =
     subst (λ (xs : List Column). AreRects xs plain (Tests c t) rects) same
-    (test-rects cs c column plain t spans rects (let n = ap length same in omega (arith, n, l)) is (subst (λ (x : Column). AreSpans x (says_test plain t) (test_width plain t) (test_ends t) spans) at are))
+    (test-rects cs c column plain t spans rects (let n = ap length same in omega (arith, n, l)) is (subst (λ (x : Column). AreSpans x (says_test plain t) (test_width plain t) (places_of t) spans) at are))
 
 -- ---- the loop that makes the rect
 

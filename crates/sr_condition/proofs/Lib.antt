@@ -11,3 +11,4 @@ pub mod Combined
 pub mod Rooms
 pub mod Starts
 pub mod Absent
+pub mod Saying

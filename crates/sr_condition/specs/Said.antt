@@ -1,18 +1,17 @@
--- Rects with just the points of a condition, or of its contrary.
+-- Rects with just the points of which a condition is true, or of which it is false.
 use Rattle.std.specs.Prelude.{ℕ, ◌+◌, ◌*◌, ◌≤◌, ◌≡◌, not, Bool, true, false, List, length, slice_set}
 use Rattle.std.specs.List.{list_all, AllByRecursion}
 use Rattle.sr_cell.specs.declared.table.Column.{Column}
 use Rattle.sr_cell.specs.Cells.{Row, cell_at}
 use Rattle.sr_box.specs.declared.span.Span.{Span}
 use Rattle.sr_box.specs.Points.{Rect, in_any, rect_fits, full_rect, AreSame}
-use Rattle.sr_model.specs.Conditions.{Cond, Conds, Tests, And, Or, Not, none, more, is_true}
+use Rattle.sr_model.specs.Conditions.{Cond, Conds, Tests, And, Or, Not, none, more, truth, is_so}
 use Rattle.sr_model.specs.Width.{test_width}
 use Rattle.sr_query.specs.Bound.{EndsWithTests}
 
--- a condition, or its contrary, is true of the point
+-- a condition is true of the point, or it is false of it
 abbrev pub says : Bool → Cond → Row → Bool
-says true c p = is_true (cell_at p) c
-says false c p = not (is_true (cell_at p) c)
+says plain c p = is_so plain (truth (cell_at p) c)
 
 -- the condition that says what all members say, and the one that says what any of them does
 abbrev pub all_of : Bool → Conds → Cond

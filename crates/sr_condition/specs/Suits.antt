@@ -5,7 +5,7 @@ use Rattle.sr_cell.specs.declared.cell.Cell.{Cell}
 use Rattle.sr_cell.specs.declared.table.Kind.{Kind}
 use Rattle.sr_cell.specs.declared.table.Table.{Table}
 use Rattle.sr_query.specs.Binding.{is_of, is_inside, column_at}
-use Rattle.sr_model.specs.Conditions.{Cond, Conds, Test, Tests, And, Or, Not, none, more, Eq, Ne, Lt, Le, Gt, Ge, Between, OneOf, Prefix}
+use Rattle.sr_model.specs.Conditions.{Cond, Conds, Test, Tests, And, Or, Not, none, more, Eq, Ne, Lt, Le, Gt, Ge, Between, OneOf, Prefix, IsNull}
 
 abbrev pub cell_suits : Kind → Cell → Bool
 cell_suits kind v = is_of kind v && is_inside v
@@ -21,6 +21,7 @@ test_suits kind (Ge v) = cell_suits kind v
 test_suits kind (Between a b) = cell_suits kind a && cell_suits kind b
 test_suits kind (OneOf vs) = list_all (cell_suits kind) vs
 test_suits kind (Prefix p) = true
+test_suits kind IsNull = true
 
 -- each test is of a column of the table, and suits it
 abbrev mutual

@@ -6,7 +6,7 @@ ghost use Rattle.sr_cell.specs.declared.table.Kind.TheVariants.{Num as Numbers, 
 ghost use Rattle.sr_cell.specs.Cells.{cell_le};
 ghost use Rattle.sr_cell.specs.Columns.{are_bytes};
 ghost use Rattle.sr_model.specs.Conditions.{passes, Between, Prefix};
-ghost use Rattle.sr_model.specs.Ends.{test_ends};
+ghost use Rattle.sr_model.specs.Ends.{places_of};
 ghost use Rattle.sr_query.specs.Binding.{is_default};
 ghost use Rattle.sr_condition.specs.Suits.{cell_suits};
 ghost use Rattle.sr_condition.specs.Ranges.{ranged, IsRange};
@@ -27,18 +27,19 @@ pub(crate) fn compared(
     value: &Cell,
 ) -> Result<Span, NoMemory>
     requires { cell_suits column.now.kind value.now ≡ true }
-    ensures { IfOk result (IsRange column.now (passes (ranged op value.now)) (test_ends (ranged op value.now))) }
+    ensures { IfOk result (IsRange column.now (passes (ranged op value.now)) (places_of (ranged op value.now))) }
 {
     match value {
         Cell::Num(number) => Ok(number_range(column, op, *number)),
         Cell::Str(text) => text_range(alloc, column, op, text.as_str().as_bytes()),
+        Cell::Null => unreachable!(),
     }
 }
 
 fn number_range(column: &Column, op: Op, number: i64) -> Span
     requires kind { column.now.kind ≡ Numbers }
     requires inside { is_default number ≡ true }
-    ensures { IsRange column.now (passes (ranged op (Num number))) (test_ends (ranged op (Num number))) result }
+    ensures { IsRange column.now (passes (ranged op (Num number))) (places_of (ranged op (Num number))) result }
 {
     match op {
         Op::Eq | Op::Ne => Span::Nums {
@@ -66,7 +67,7 @@ fn number_range(column: &Column, op: Op, number: i64) -> Span
 
 fn text_range(alloc: Global, column: &Column, op: Op, text: &[u8]) -> Result<Span, NoMemory>
     requires { column.now.kind ≡ Texts }
-    ensures { IfOk result (IsRange column.now (passes (ranged op (Str text.now))) (test_ends (ranged op (Str text.now)))) }
+    ensures { IfOk result (IsRange column.now (passes (ranged op (Str text.now))) (places_of (ranged op (Str text.now)))) }
 {
     know_bytes(text);
     match op {
@@ -116,7 +117,7 @@ pub(crate) fn between(
     requires low { cell_suits column.now.kind low.now ≡ true }
     requires high { cell_suits column.now.kind high.now ≡ true }
     requires order { cell_le low.now high.now ≡ true }
-    ensures { IfOk result (IsRange column.now (passes (Between low.now high.now)) (test_ends (Between low.now high.now))) }
+    ensures { IfOk result (IsRange column.now (passes (Between low.now high.now)) (places_of (Between low.now high.now))) }
 {
     match (low, high) {
         (Cell::Num(low), Cell::Num(high)) => Ok(number_between(column, *low, *high)),
@@ -133,7 +134,7 @@ pub(crate) fn between(
 fn number_between(column: &Column, low: i64, high: i64) -> Span
     requires kind { column.now.kind ≡ Numbers }
     requires order { cell_le (Num low) (Num high) ≡ true }
-    ensures { IsRange column.now (passes (Between (Num low) (Num high))) (test_ends (Between (Num low) (Num high))) result }
+    ensures { IsRange column.now (passes (Between (Num low) (Num high))) (places_of (Between (Num low) (Num high))) result }
 {
     Span::Nums { lo: low, hi: high }
 }
@@ -141,7 +142,7 @@ fn number_between(column: &Column, low: i64, high: i64) -> Span
 fn text_between(alloc: Global, column: &Column, low: &[u8], high: &[u8]) -> Result<Span, NoMemory>
     requires kind { column.now.kind ≡ Texts }
     requires order { cell_le (Str low.now) (Str high.now) ≡ true }
-    ensures { IfOk result (IsRange column.now (passes (Between (Str low.now) (Str high.now))) (test_ends (Between (Str low.now) (Str high.now)))) }
+    ensures { IfOk result (IsRange column.now (passes (Between (Str low.now) (Str high.now))) (places_of (Between (Str low.now) (Str high.now)))) }
 {
     know_bytes(low);
     know_bytes(high);
@@ -154,7 +155,7 @@ fn text_between(alloc: Global, column: &Column, low: &[u8], high: &[u8]) -> Resu
 /// The bounds of the texts that begin so.
 pub(crate) fn prefix(alloc: Global, column: &Column, start: &[u8]) -> Result<Span, NoMemory>
     requires { column.now.kind ≡ Texts }
-    ensures { IfOk result (IsRange column.now (passes (Prefix start.now)) (test_ends (Prefix start.now))) }
+    ensures { IfOk result (IsRange column.now (passes (Prefix start.now)) (places_of (Prefix start.now))) }
 {
     know_bytes(start);
     let lo = same_text(alloc, start)?;

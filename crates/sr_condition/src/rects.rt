@@ -31,7 +31,7 @@ pub fn rects_of(alloc: Global, table: &Table, condition: &Condition) -> Result<R
     Ok(rects)
 }
 
-// The rects of a condition, or of its contrary.
+// The rects of the points of which a condition is true, or of those of which it is false.
 #[cycle(condition)]
 fn rects_said(
     alloc: Global,
@@ -65,7 +65,7 @@ fn rects_said(
     }
 }
 
-// The points of which all members are true, or all contraries.
+// The points of which all members are true, or all false.
 #[cycle(condition)]
 fn meet_all(alloc: Global, table: &Table, plain: bool, all: &[Condition]) -> Result<Rects, NoMemory>
     requires table { is_table table.now ≡ true }
@@ -84,7 +84,7 @@ fn meet_all(alloc: Global, table: &Table, plain: bool, all: &[Condition]) -> Res
     Ok(both)
 }
 
-// The points of which a member is true, or a contrary.
+// The points of which a member is true, or one is false.
 #[cycle(condition)]
 fn join_all(alloc: Global, table: &Table, plain: bool, all: &[Condition]) -> Result<Rects, NoMemory>
     requires table { is_table table.now ≡ true }

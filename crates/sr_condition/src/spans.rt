@@ -1,19 +1,20 @@
-//! The values of a test, or of its contrary, as spans of a column.
+//! The values of which a test is true, or those of which it is false, as spans of a column.
 ghost use Rattle.std.specs.Prelude.{◌≡◌, ◌+◌, ◌++◌, ◌∷◌, [], true, false, not, int_le, ◌&&◌, flat_map, length, option_to_list, OnOk, IfOk, Bool, List, if◌then◌else◌};
 ghost use Rattle.std.specs.List.{list_all, AllByRecursion};
-ghost use Rattle.sr_box.specs.declared.span.Span.TheVariants.{Full};
+ghost use Rattle.sr_box.specs.declared.span.Span.TheVariants.{Null};
 ghost use Rattle.sr_box.specs.Cut.{nums, IsInner};
-ghost use Rattle.sr_box.specs.Spans.{span_fits};
+ghost use Rattle.sr_box.specs.Spans.{span_fits, is_whole};
 ghost use Rattle.sr_cell.specs.declared.cell.Cell.{Cell as Value};
+ghost use Rattle.sr_cell.specs.declared.cell.Cell.TheVariants.{Null as NullCell};
 ghost use Rattle.sr_cell.specs.Names.{is_bad_domain};
-ghost use Rattle.sr_model.specs.Conditions.{passes, Eq, Between, Prefix, OneOf};
+ghost use Rattle.sr_model.specs.Conditions.{passes, Eq, Between, Prefix, OneOf, IsNull};
 ghost use Rattle.sr_model.specs.Conditions as model;
-ghost use Rattle.sr_model.specs.Ends.{test_ends};
+ghost use Rattle.sr_model.specs.Ends.{places_of};
 ghost use Rattle.sr_model.specs.Width.{test_width};
 ghost use Rattle.sr_query.specs.Binding.{compared};
 ghost use Rattle.sr_query.specs.Meant.{test_meant};
 ghost use Rattle.sr_condition.specs.Suits.{cell_suits, test_suits};
-ghost use Rattle.sr_condition.specs.Ranges.{says_test, contrary, said, range_width, is_one_range, is_range, IsRange, number_part, text_part, part_of, beside, without, is_left, EndsAt, AreSpans, AreApart};
+ghost use Rattle.sr_condition.specs.Ranges.{says_test, contrary, said, range_width, is_one_range, is_range, IsRange, number_part, text_part, part_of, all_values, beside, without, in_spans, is_left, EndsAt, AreSpans, AreApart};
 
 use crate::ranges;
 use sr_box::span::{Span, is_before};
@@ -37,26 +38,32 @@ fn some_nums(lo: i64, hi: i64) -> Option<Span>
     }
 }
 
-fn is_around(low: i64, high: i64, lo: i64, hi: i64) -> bool
-    ensures { result ≡ (int_le lo low && int_le high hi) }
+fn are_all(nullable: bool, low: i64, high: i64, lo: i64, hi: i64) -> bool
+    ensures { result ≡ (not nullable && (int_le lo low && int_le high hi)) }
 {
-    lo <= low && high <= hi
+    !nullable && lo <= low && high <= hi
 }
 
-fn number_part(low: i64, high: i64, lo: i64, hi: i64) -> Option<Span>
-    ensures { result ≡ number_part low high lo hi }
+fn number_part(nullable: bool, low: i64, high: i64, lo: i64, hi: i64) -> Option<Span>
+    ensures { result ≡ number_part nullable low high lo hi }
 {
-    if is_around(low, high, lo, hi) {
+    if are_all(nullable, low, high, lo, hi) {
         Some(Span::Full)
     } else {
         some_nums(lo.max(low), hi.min(high))
     }
 }
 
-fn text_part(lo: Bytes, hi: Option<Bytes>) -> Option<Span>
-    ensures { result ≡ text_part lo hi }
+fn are_all_texts(nullable: bool, lo: &Bytes, hi: &Option<Bytes>) -> bool
+    ensures { result ≡ (not nullable && is_whole lo.now hi.now) }
 {
-    if lo.is_empty() && hi.is_none() {
+    !nullable && lo.is_empty() && hi.is_none()
+}
+
+fn text_part(nullable: bool, lo: Bytes, hi: Option<Bytes>) -> Option<Span>
+    ensures { result ≡ text_part nullable lo hi }
+{
+    if are_all_texts(nullable, &lo, &hi) {
         Some(Span::Full)
     } else if is_before(lo.as_slice(), &hi) {
         Some(Span::Strs { lo, hi })
@@ -71,8 +78,9 @@ fn part_of(column: &Column, bounds: Span) -> Option<Span>
 {
     match bounds {
         Span::Full => Some(Span::Full),
-        Span::Nums { lo, hi } => number_part(column.lo, column.hi, lo, hi),
-        Span::Strs { lo, hi } => text_part(lo, hi),
+        Span::Nums { lo, hi } => number_part(column.nullable, column.lo, column.hi, lo, hi),
+        Span::Strs { lo, hi } => text_part(column.nullable, lo, hi),
+        Span::Null => Some(Span::Null),
     }
 }
 
@@ -123,20 +131,31 @@ fn without(
     }
 }
 
-fn whole(alloc: Global) -> Result<Spans, NoMemory>
-    ensures { IfOk result (λ spans. spans ≡ Full ∷ []) }
+// All values but Null.
+fn all_values(alloc: Global, column: &Column) -> Span
+    ensures { result ≡ all_values column.now }
+{
+    if column.nullable {
+        Span::values(alloc, column)
+    } else {
+        Span::Full
+    }
+}
+
+fn whole(alloc: Global, column: &Column) -> Result<Spans, NoMemory>
+    ensures { IfOk result (λ spans. spans ≡ all_values column.now ∷ []) }
 {
     let mut spans = Seq::new(alloc);
-    spans.push(Span::Full)?;
+    spans.push(all_values(alloc, column))?;
     Ok(spans)
 }
 
-// The values of a test that is true inside the bounds, or the others.
+// The values of a test that is true inside the bounds, or the others but Null.
 fn range_spans(alloc: Global, column: &Column, plain: bool, bounds: Span) -> Result<Spans, NoMemory>
     requires good { is_bad_domain column.now ≡ false }
     requires range { is_range column.now.kind bounds ≡ true }
-    ensures { (t : model.Test) → IsRange column.now (passes t) (test_ends t) bounds
-        → IfOk result (AreSpans column.now (says_test plain t) (range_width plain) (test_ends t)) }
+    ensures { (t : model.Test) → IsRange column.now (passes t) (places_of t) bounds
+        → IfOk result (AreSpans column.now (says_test plain t) (range_width plain) (places_of t)) }
 {
     let part = part_of(column, bounds);
     if plain {
@@ -144,7 +163,7 @@ fn range_spans(alloc: Global, column: &Column, plain: bool, bounds: Span) -> Res
         push_some(&mut spans, part)?;
         Ok(spans)
     } else {
-        without(alloc, column, whole(alloc)?, part)
+        without(alloc, column, whole(alloc, column)?, part)
     }
 }
 
@@ -185,7 +204,7 @@ fn compared(
 ) -> Result<Spans, NoMemory>
     requires good { is_bad_domain column.now ≡ false }
     requires suits { cell_suits column.now.kind value.now ≡ true }
-    ensures { IfOk result (AreSpans column.now (says_test plain (compared op value.now)) (test_width plain (compared op value.now)) (test_ends (compared op value.now))) }
+    ensures { IfOk result (AreSpans column.now (says_test plain (compared op value.now)) (test_width plain (compared op value.now)) (places_of (compared op value.now))) }
 {
     let op = said(plain, op);
     let bounds = ranges::compared(alloc, column, op, value)?;
@@ -202,23 +221,23 @@ fn between(
     requires good { is_bad_domain column.now ≡ false }
     requires low { cell_suits column.now.kind low.now ≡ true }
     requires high { cell_suits column.now.kind high.now ≡ true }
-    ensures { IfOk result (AreSpans column.now (says_test plain (Between low.now high.now)) (range_width plain) (test_ends (Between low.now high.now))) }
+    ensures { IfOk result (AreSpans column.now (says_test plain (Between low.now high.now)) (range_width plain) (places_of (Between low.now high.now))) }
 {
     if low.is_at_most(high) {
         let bounds = ranges::between(alloc, column, low, high)?;
         range_spans(alloc, column, plain, bounds)
     } else {
-        all_or_none(alloc, !plain)
+        all_or_none(alloc, column, !plain)
     }
 }
 
 // No number begins with a text.
 fn prefix(alloc: Global, column: &Column, plain: bool, start: &[u8]) -> Result<Spans, NoMemory>
     requires good { is_bad_domain column.now ≡ false }
-    ensures { IfOk result (AreSpans column.now (says_test plain (Prefix start.now)) (range_width plain) (test_ends (Prefix start.now))) }
+    ensures { IfOk result (AreSpans column.now (says_test plain (Prefix start.now)) (range_width plain) (places_of (Prefix start.now))) }
 {
     match column.kind {
-        Kind::Num => all_or_none(alloc, !plain),
+        Kind::Num => all_or_none(alloc, column, !plain),
         Kind::Str => {
             let bounds = ranges::prefix(alloc, column, start)?;
             range_spans(alloc, column, plain, bounds)
@@ -226,19 +245,41 @@ fn prefix(alloc: Global, column: &Column, plain: bool, start: &[u8]) -> Result<S
     }
 }
 
-fn all_or_none(alloc: Global, all: bool) -> Result<Spans, NoMemory>
-    ensures { IfOk result (λ spans. spans ≡ (if all then Full ∷ [] else [])) }
+fn all_or_none(alloc: Global, column: &Column, all: bool) -> Result<Spans, NoMemory>
+    ensures { IfOk result (λ spans. spans ≡ (if all then all_values column.now ∷ [] else [])) }
 {
     if all {
-        whole(alloc)
+        whole(alloc, column)
     } else {
         Ok(Seq::new(alloc))
     }
 }
 
+// Null alone, or all other values.
+fn is_null(alloc: Global, column: &Column, plain: bool) -> Result<Spans, NoMemory>
+    requires good { is_bad_domain column.now ≡ false }
+    ensures { IfOk result (AreSpans column.now (says_test plain IsNull) (test_width plain IsNull) (places_of IsNull)) }
+{
+    if plain {
+        null(alloc, column.nullable)
+    } else {
+        whole(alloc, column)
+    }
+}
+
+fn null(alloc: Global, nullable: bool) -> Result<Spans, NoMemory>
+    ensures { IfOk result (λ spans. spans ≡ (if nullable then Null ∷ [] else [])) }
+{
+    let mut spans = Seq::new(alloc);
+    if nullable {
+        spans.push(Span::Null)?;
+    }
+    Ok(spans)
+}
+
 fn equal_part(alloc: Global, column: &Column, value: &Cell) -> Result<Option<Span>, NoMemory>
     requires suits { cell_suits column.now.kind value.now ≡ true }
-    ensures { IfOk result (λ part. AreSpans column.now (passes (Eq value.now)) 1 (test_ends (Eq value.now)) (option_to_list part)) }
+    ensures { IfOk result (λ part. AreSpans column.now (passes (Eq value.now)) 1 (places_of (Eq value.now)) (option_to_list part)) }
 {
     let bounds = ranges::compared(alloc, column, Op::Eq, value)?;
     Ok(part_of(column, bounds))
@@ -248,9 +289,9 @@ fn equal_part(alloc: Global, column: &Column, value: &Cell) -> Result<Option<Spa
 fn outside(alloc: Global, column: &Column, values: &[Cell]) -> Result<Spans, NoMemory>
     requires good { is_bad_domain column.now ≡ false }
     requires suits { list_all (cell_suits column.now.kind) values.now ≡ true }
-    ensures { IfOk result (AreSpans column.now (says_test false (OneOf values.now)) (length values.now + 1) (test_ends (OneOf values.now))) }
+    ensures { IfOk result (AreSpans column.now (says_test false (OneOf values.now)) (length values.now + 1) (places_of (OneOf values.now))) }
 {
-    let mut spans = whole(alloc)?;
+    let mut spans = whole(alloc, column)?;
     for value in values {
         let part = equal_part(alloc, column, value)?;
         spans = without(alloc, column, spans, part)?;
@@ -258,14 +299,15 @@ fn outside(alloc: Global, column: &Column, values: &[Cell]) -> Result<Spans, NoM
     Ok(spans)
 }
 
-// What is left of the column without any of these spans.
+// What is left of the column's values without any of these spans, none of which has Null.
 fn left_by(alloc: Global, column: &Column, taken: &Spans) -> Result<Spans, NoMemory>
     requires good { is_bad_domain column.now ≡ false }
     requires fits { list_all (span_fits column.now) taken.now ≡ true }
-    ensures { (places : List Value) → AllByRecursion (EndsAt column.now places) taken.now
-        → IfOk result (AreApart column.now (is_left taken.now) (length taken.now + 1) places) }
+    requires values { column.now.nullable ≡ true → in_spans taken.now NullCell ≡ false }
+    ensures { (ends : List Value) → AllByRecursion (EndsAt column.now (NullCell ∷ ends)) taken.now
+        → IfOk result (AreApart column.now (is_left taken.now) (length taken.now + 1) (NullCell ∷ ends)) }
 {
-    let mut spans = whole(alloc)?;
+    let mut spans = whole(alloc, column)?;
     for span in taken.as_slice() {
         spans = cut(alloc, column, &spans, span)?;
     }
@@ -276,13 +318,13 @@ fn left_by(alloc: Global, column: &Column, taken: &Spans) -> Result<Spans, NoMem
 fn inside(alloc: Global, column: &Column, values: &[Cell]) -> Result<Spans, NoMemory>
     requires good { is_bad_domain column.now ≡ false }
     requires suits { list_all (cell_suits column.now.kind) values.now ≡ true }
-    ensures { IfOk result (AreSpans column.now (passes (OneOf values.now)) (length values.now) (test_ends (OneOf values.now))) }
+    ensures { IfOk result (AreSpans column.now (passes (OneOf values.now)) (length values.now) (places_of (OneOf values.now))) }
 {
     let between = outside(alloc, column, values)?;
     left_by(alloc, column, &between)
 }
 
-/// Spans of a column with just the values of which a test, or its contrary, is true.
+/// Spans of a column with just the values of which a test is true, or of which it is false.
 pub(crate) fn test_spans(
     alloc: Global,
     column: &Column,
@@ -291,20 +333,21 @@ pub(crate) fn test_spans(
 ) -> Result<Spans, NoMemory>
     requires good { is_bad_domain column.now ≡ false }
     requires suits { test_suits column.now.kind (test_meant test.now) ≡ true }
-    ensures { IfOk result (AreSpans column.now (says_test plain (test_meant test.now)) (test_width plain (test_meant test.now)) (test_ends (test_meant test.now))) }
+    ensures { IfOk result (AreSpans column.now (says_test plain (test_meant test.now)) (test_width plain (test_meant test.now)) (places_of (test_meant test.now))) }
 {
     match test {
         Test::Compared(op, value) => compared(alloc, column, plain, *op, value),
         Test::Between(low, high) => between(alloc, column, plain, low, high),
         Test::OneOf(values) => one_of(alloc, column, plain, values.as_slice()),
         Test::Prefix(start) => prefix(alloc, column, plain, start.as_str().as_bytes()),
+        Test::IsNull => is_null(alloc, column, plain),
     }
 }
 
 fn one_of(alloc: Global, column: &Column, plain: bool, values: &[Cell]) -> Result<Spans, NoMemory>
     requires good { is_bad_domain column.now ≡ false }
     requires suits { list_all (cell_suits column.now.kind) values.now ≡ true }
-    ensures { IfOk result (AreSpans column.now (says_test plain (OneOf values.now)) (test_width plain (OneOf values.now)) (test_ends (OneOf values.now))) }
+    ensures { IfOk result (AreSpans column.now (says_test plain (OneOf values.now)) (test_width plain (OneOf values.now)) (places_of (OneOf values.now))) }
 {
     if plain {
         inside(alloc, column, values)

@@ -74,6 +74,7 @@ fn test_width(plain: bool, test: &Test) -> u32
         Test::Between(_, _) => one_or_two(plain),
         Test::OneOf(all) => list_width(plain, all.len()),
         Test::Prefix(_) => one_or_two(plain),
+        Test::IsNull => 1,
     }
 }
 

@@ -1,10 +1,10 @@
 -- The CREATE line of the script is accepted.
-use Rattle.std.proofs.Common.{◌≡◌, ℕ, zero, suc, ◌+◌, List, [], ◌∷◌, ◌++◌, Option, None, Some, Result, Ok, Err, inl, inr, refl, subst, lit≤}
+use Rattle.std.proofs.Common.{◌≡◌, ℕ, zero, suc, ◌+◌, true, List, [], ◌∷◌, ◌++◌, Option, None, Some, Result, Ok, Err, inl, inr, refl, subst, lit≤}
 use Rattle.std.specs.Prelude.{codes, pos}
 use Rattle.sr_cell.specs.declared.fault.Fault.{Fault}
 use Rattle.sr_cell.specs.declared.table.Table.{Table}
 use Rattle.sr_cell.specs.declared.table.Kind.TheVariants.{Num}
-use Rattle.sr_cell.specs.Faults.{table_fault}
+use Rattle.sr_cell.specs.Faults.{fault_with}
 use Rattle.sr_token.specs.Tokens.{tokens_from}
 use Rattle.sr_grammar.specs.Tokens.{tokens_of}
 use Rattle.sr_grammar.specs.Trees.{Create, Defines, table_of}
@@ -51,7 +51,7 @@ create-says : Says create_text (Ok (Create the_table))
 create-says = inr (lit≤ tt, inl (Defines (codes "t") the_columns, ((each_is_exact 64).found (tokens_of create_text) [] (Defines (codes "t") the_columns) create-tree).1, refl))
 
 -- no table is there before it
-create-fits : table_fault [] the_table ≡ None
+create-fits : fault_with true [] the_table ≡ None
 create-fits = refl
 
 none-some : {A : Type 0} {B : Type 0} (o : Option A) (a : A) → o ≡ None → o ≡ Some a → B
@@ -63,7 +63,7 @@ one-table t says = let same = each_says_one create_text (Ok (Create t)) (Ok (Cre
 never-refuses : (fault : Fault) → RefusesTable [] create_text fault → ⊥
 never-refuses fault h = elim h [
   | inl says ↦ (let same = each_says_one create_text (Err fault) (Ok (Create the_table)) says create-says in cc)
-  | inr other ↦ none-some (table_fault [] the_table) fault create-fits (subst (λ (t : Table). table_fault [] t ≡ Some fault) (one-table other.0 other.1) other.2)
+  | inr other ↦ none-some (fault_with true [] the_table) fault create-fits (subst (λ (t : Table). fault_with true [] t ≡ Some fault) (one-table other.0 other.1) other.2)
 ]
 
 pub accepted-script : (seed events line : ℕ) (fault : Fault) → FirstRefused 1 1 [] (lines_of (script seed events)) line fault → ⊥

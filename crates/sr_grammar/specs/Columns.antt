@@ -4,7 +4,7 @@ use Rattle.sr_cell.specs.declared.table.Kind.{Kind}
 use Rattle.sr_cell.specs.declared.table.Kind.TheVariants.{Num, Str}
 use Rattle.sr_grammar.specs.declared.statement.Check.{Check}
 use Rattle.sr_grammar.specs.declared.statement.ColumnRule.{ColumnRule}
-use Rattle.sr_grammar.specs.declared.statement.ColumnRule.TheVariants.{PrimaryKey, NotNull, Check as Checks}
+use Rattle.sr_grammar.specs.declared.statement.ColumnRule.TheVariants.{PrimaryKey, NotNull, Null, Check as Checks}
 use Rattle.sr_grammar.specs.declared.statement.Definition.{Definition}
 use Rattle.sr_grammar.specs.Words.{name_of, number_of, minus}
 use Rattle.sr_grammar.specs.Trees.{Tree, Defines}
@@ -34,14 +34,14 @@ IsKind =
       _ ← KEY (codes "TEXT")
       Nothing Str))
 
--- which rules may still stand
+-- which rules may still stand; NULL and NOT NULL count as one
 pub record Left : Type 0 where
   pub primary : Bool
-  pub not_null : Bool
+  pub null : Bool
   pub check : Bool
 
 abbrev pub all_left : Left
-all_left = record { primary = true; not_null = true; check = true }
+all_left = record { primary = true; null = true; check = true }
 
 -- P, if it may stand
 abbrev pub Only : {A : Type 0} → Bool → Rule A → Rule A
@@ -57,7 +57,7 @@ IsCheck = do
   high ← IsNumber
   Nothing (record { name = name.text; low = low; high = high })
 
--- at most so many of the rules that may still stand: PRIMARY KEY | NOT NULL | CHECK "(" name BETWEEN number AND number ")"
+-- at most so many of the rules that may still stand: PRIMARY KEY | NOT NULL | NULL | CHECK "(" name BETWEEN number AND number ")"
 abbrev pub IsRules : ℕ → Left → Rule (List ColumnRule)
 IsRules zero left = Nothing []
 IsRules (suc count) left =
@@ -66,17 +66,21 @@ IsRules (suc count) left =
       _ ← KEY (codes "KEY")
       more ← IsRules count (record left { primary = false })
       Nothing (PrimaryKey ∷ more)) or
-    (Only left.not_null (do
+    (Only left.null (do
       _ ← KEY (codes "NOT")
       _ ← KEY (codes "NULL")
-      more ← IsRules count (record left { not_null = false })
+      more ← IsRules count (record left { null = false })
       Nothing (NotNull ∷ more)) or
+    (Only left.null (do
+      _ ← KEY (codes "NULL")
+      more ← IsRules count (record left { null = false })
+      Nothing (Null ∷ more)) or
     (Only left.check (do
       _ ← KEY (codes "CHECK")
       check ← InParens IsCheck
       more ← IsRules count (record left { check = false })
       Nothing (Checks check ∷ more)) or
-    Nothing []))
+    Nothing [])))
 
 -- name kind {rule}
 abbrev pub IsColumn : Rule Definition

@@ -1,10 +1,10 @@
 -- The grammar of conditions. A rule says which tokens spell which tree.
 use Rattle.std.specs.Prelude.{ℕ, zero, suc, List, ◌∷◌, Option, Some, None, codes}
-use Rattle.sr_cell.specs.declared.cell.Cell.TheVariants.{Num}
+use Rattle.sr_cell.specs.declared.cell.Cell.TheVariants.{Num, Null}
 use Rattle.sr_grammar.specs.declared.statement.Name.{Name}
 use Rattle.sr_grammar.specs.declared.statement.Literal.{Literal}
 use Rattle.sr_grammar.specs.declared.statement.Atom.{Atom}
-use Rattle.sr_grammar.specs.declared.statement.Atom.TheVariants.{Cmp, Between, OneOf, Prefix, NotBetween, NotOneOf, NotPrefix}
+use Rattle.sr_grammar.specs.declared.statement.Atom.TheVariants.{Cmp, Between, OneOf, Prefix, NotBetween, NotOneOf, NotPrefix, IsNull, NotNull}
 use Rattle.sr_grammar.specs.Tokens.{Key, Mark}
 use Rattle.sr_grammar.specs.Words.{place_of, name_of, number_of, minus, plain_of, prefix_of, op_of, reference_of}
 use Rattle.sr_grammar.specs.Trees.{Cond, Test, Not, and_of, or_of}
@@ -46,6 +46,12 @@ IsLiteral = (do
   n ← One number_of
   Nothing (record { cell = Num (minus n); place = at })) or One plain_of
 
+-- literal | NULL
+abbrev pub IsValue : Rule Literal
+IsValue = (do
+  at ← KEY (codes "NULL")
+  Nothing (record { cell = Null; place = at })) or IsLiteral
+
 -- name ["." name]
 abbrev pub IsReference : Rule Name
 IsReference = do
@@ -78,13 +84,25 @@ IsLike made = do
   text ← One prefix_of
   Nothing (made text)
 
--- op literal | [NOT] BETWEEN .. | [NOT] IN .. | [NOT] LIKE ..
+-- IS [NOT] NULL
+abbrev pub IsNullTest : Rule Atom
+IsNullTest = do
+  _ ← KEY (codes "IS")
+  ((do
+    _ ← KEY (codes "NOT")
+    _ ← KEY (codes "NULL")
+    Nothing NotNull) or
+      (do
+        _ ← KEY (codes "NULL")
+        Nothing IsNull))
+
+-- op literal | [NOT] BETWEEN .. | [NOT] IN .. | [NOT] LIKE .. | IS [NOT] NULL
 abbrev pub IsAtom : Rule Atom
 IsAtom =
     (do
       _ ← KEY (codes "NOT")
       (IsBetween NotBetween or IsIn NotOneOf or IsLike NotPrefix)) or
-    (IsBetween Between or IsIn OneOf or IsLike Prefix or
+    (IsBetween Between or IsIn OneOf or IsLike Prefix or IsNullTest or
     (do
       op ← One op_of
       value ← IsLiteral

@@ -3,7 +3,7 @@ use Rattle.std.specs.Prelude.{◌≡◌, map, Option, Some, None}
 use Rattle.sr_grammar.specs.declared.statement.Name.{Name}
 use Rattle.sr_grammar.specs.declared.statement.Literal.{Literal}
 use Rattle.sr_grammar.specs.declared.statement.Atom.{Atom}
-use Rattle.sr_grammar.specs.declared.statement.Atom.TheVariants.{Cmp, Between, OneOf, Prefix, NotBetween, NotOneOf, NotPrefix}
+use Rattle.sr_grammar.specs.declared.statement.Atom.TheVariants.{Cmp, Between, OneOf, Prefix, NotBetween, NotOneOf, NotPrefix, IsNull, NotNull}
 use Rattle.sr_grammar.specs.declared.statement.JoinOn.{JoinOn}
 use Rattle.sr_grammar.specs.declared.statement.LiteralRow.{LiteralRow}
 use Rattle.sr_grammar.specs.declared.statement.Set.{Set}
@@ -24,6 +24,8 @@ bare_atom (Prefix text) = Prefix (bare_literal text)
 bare_atom (NotBetween low high) = NotBetween (bare_literal low) (bare_literal high)
 bare_atom (NotOneOf all) = NotOneOf (map bare_literal all)
 bare_atom (NotPrefix text) = NotPrefix (bare_literal text)
+bare_atom IsNull = IsNull
+bare_atom NotNull = NotNull
 
 abbrev mutual
   pub bare_cond : Cond → Cond

@@ -1,7 +1,7 @@
 -- The printed form of a statement: its tokens, at the places that the tree gives.
 use Rattle.std.specs.Prelude.{ℕ, ℤ, pos, negsuc, int_le, ◌+◌, ◌==◌, ◌&&◌, Bool, true, false, List, [], ◌∷◌, ◌++◌, flat_map, decimal, Option, Some, None, codes, if◌then◌else◌}
 use Rattle.sr_cell.specs.declared.cell.Cell.{Cell}
-use Rattle.sr_cell.specs.declared.cell.Cell.TheVariants.{Num, Str}
+use Rattle.sr_cell.specs.declared.cell.Cell.TheVariants.{Num, Str, Null}
 use Rattle.sr_cell.specs.declared.table.Kind.{Kind}
 use Rattle.sr_cell.specs.declared.table.Kind.TheVariants as kinds
 use Rattle.sr_cell.specs.declared.table.Column.{Column}
@@ -11,7 +11,7 @@ use Rattle.sr_grammar.specs.declared.statement.Literal.{Literal}
 use Rattle.sr_grammar.specs.declared.statement.Op.{Op}
 use Rattle.sr_grammar.specs.declared.statement.Op.TheVariants.{Eq, Ne, Lt, Le, Gt, Ge}
 use Rattle.sr_grammar.specs.declared.statement.Atom.{Atom}
-use Rattle.sr_grammar.specs.declared.statement.Atom.TheVariants.{Cmp, Between, OneOf, Prefix, NotBetween, NotOneOf, NotPrefix}
+use Rattle.sr_grammar.specs.declared.statement.Atom.TheVariants.{Cmp, Between, OneOf, Prefix, NotBetween, NotOneOf, NotPrefix, IsNull, NotNull}
 use Rattle.sr_grammar.specs.declared.statement.JoinOn.{JoinOn}
 use Rattle.sr_grammar.specs.declared.statement.LiteralRow.{LiteralRow}
 use Rattle.sr_grammar.specs.declared.statement.Insert.{Insert}
@@ -47,6 +47,7 @@ number (negsuc n) place = token Mark (codes "-") place ∷ token Number (decimal
 abbrev pub cell : Cell → ℕ → List Tok
 cell (Num n) place = number n place
 cell (Str text) place = token Quoted text place ∷ []
+cell Null place = token Key (codes "NULL") place ∷ []
 
 abbrev pub literal : Literal → List Tok
 literal l = cell l.cell l.place
@@ -54,6 +55,7 @@ literal l = cell l.cell l.place
 abbrev pub prefix_cell : Cell → ℕ → List Tok
 prefix_cell (Num n) place = number n place
 prefix_cell (Str text) place = token Quoted (text ++ codes "%") place ∷ []
+prefix_cell Null place = token Key (codes "NULL") place ∷ []
 
 -- the % of a prefix stands at its end
 abbrev pub prefix : Literal → List Tok
@@ -92,6 +94,8 @@ atom (Prefix text) = like text
 atom (NotBetween low high) = key (codes "NOT") ∷ between low high
 atom (NotOneOf all) = key (codes "NOT") ∷ one_of all
 atom (NotPrefix text) = key (codes "NOT") ∷ like text
+atom IsNull = key (codes "IS") ∷ key (codes "NULL") ∷ []
+atom NotNull = key (codes "IS") ∷ key (codes "NOT") ∷ key (codes "NULL") ∷ []
 
 abbrev mutual
   -- as a member of an AND, or behind NOT: in parentheses where it is an AND or an OR
@@ -143,6 +147,10 @@ abbrev pub key_rule : Bool → List Tok
 key_rule false = []
 key_rule true = key (codes "PRIMARY") ∷ key (codes "KEY") ∷ []
 
+abbrev pub null_rule : Bool → List Tok
+null_rule false = []
+null_rule true = key (codes "NULL") ∷ []
+
 abbrev pub check : List ℕ → ℤ → ℤ → List Tok
 check column low high = key (codes "CHECK") ∷ parens (name column 0 ∷ key (codes "BETWEEN") ∷ (number low 0 ++ key (codes "AND") ∷ number high 0))
 
@@ -152,7 +160,7 @@ check_rule kinds.Num column low high = if int_le low low_default && int_le high_
 check_rule kinds.Str column low high = []
 
 abbrev pub column : Bool → Column → List Tok
-column is_key c = name c.name 0 ∷ key (kind_word c.kind) ∷ (key_rule is_key ++ check_rule c.kind c.name c.lo c.hi)
+column is_key c = name c.name 0 ∷ key (kind_word c.kind) ∷ (key_rule is_key ++ (null_rule c.nullable ++ check_rule c.kind c.name c.lo c.hi))
 
 -- the columns behind the first, each behind a comma; c is the number of the first of these
 abbrev pub columns_behind : ℕ → ℕ → List Column → List Tok

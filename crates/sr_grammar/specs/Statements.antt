@@ -7,7 +7,7 @@ use Rattle.sr_grammar.specs.declared.statement.Set.{Set}
 use Rattle.sr_grammar.specs.Words.{Word, name_of, reference_of}
 use Rattle.sr_grammar.specs.Trees.{Cond, Select, Selects, Inserts, Updates, Deletes, Tree, Says}
 use Rattle.sr_grammar.specs.Rules.{Rule, One, Nothing, ◌>>=◌, ◌or◌, Many}
-use Rattle.sr_grammar.specs.Conditions.{KEY, MARK, MaybeOf, ListOf, InParens, IsLiteral, IsReference, IsCond}
+use Rattle.sr_grammar.specs.Conditions.{KEY, MARK, MaybeOf, ListOf, InParens, IsValue, IsReference, IsCond}
 use Rattle.sr_grammar.specs.Columns.{IsCreate}
 
 -- a condition, and the place of its WHERE
@@ -89,11 +89,11 @@ IsColumnName = do
 abbrev pub IsColumnNames : Rule (List Name)
 IsColumnNames = InParens (ListOf (MARK (codes ",")) IsColumnName) or Nothing []
 
--- "(" literal {"," literal} ")"
+-- "(" value {"," value} ")"
 abbrev pub IsRow : Rule LiteralRow
 IsRow = do
   at ← MARK (codes "(")
-  literals ← ListOf (MARK (codes ",")) IsLiteral
+  literals ← ListOf (MARK (codes ",")) IsValue
   _ ← MARK (codes ")")
   Nothing (record { literals = literals; place = at })
 
@@ -108,12 +108,12 @@ IsInsert = do
   rows ← ListOf (MARK (codes ",")) IsRow
   Nothing (Says (Inserts (record { table = table.text; place = table.place; columns = columns; rows = rows })))
 
--- name "=" literal
+-- name "=" value
 abbrev pub IsSet : Rule Set
 IsSet = do
   name ← IsColumnName
   _ ← MARK (codes "=")
-  value ← IsLiteral
+  value ← IsValue
   Nothing (record { name = name; value = value })
 
 -- UPDATE name SET set {"," set} [WHERE cond]

@@ -6,7 +6,7 @@ use Rattle.sr_cell.specs.declared.table.Kind.TheVariants as kinds
 use Rattle.sr_cell.specs.declared.table.Column.{Column}
 use Rattle.sr_cell.specs.declared.table.Table.{Table}
 use Rattle.sr_cell.specs.declared.fault.Fault.{Fault}
-use Rattle.sr_cell.specs.declared.fault.Why.TheVariants.{NoKey, BadDomain}
+use Rattle.sr_cell.specs.declared.fault.Why.TheVariants.{NoKey, BadDomain, BadNull}
 use Rattle.sr_grammar.specs.declared.statement.Name.{Name}
 use Rattle.sr_grammar.specs.declared.statement.Atom.{Atom}
 use Rattle.sr_grammar.specs.declared.statement.JoinOn.{JoinOn}
@@ -78,10 +78,24 @@ pub data Tree : Type 0 where
 abbrev pub is_key_rule : ColumnRule → Bool
 is_key_rule rules.PrimaryKey = true
 is_key_rule rules.NotNull = false
+is_key_rule rules.Null = false
 is_key_rule (rules.Check check) = false
 
 abbrev pub is_key : Definition → Bool
 is_key d = list_any is_key_rule d.rules
+
+abbrev pub is_null_rule : ColumnRule → Bool
+is_null_rule rules.PrimaryKey = false
+is_null_rule rules.NotNull = false
+is_null_rule rules.Null = true
+is_null_rule (rules.Check check) = false
+
+-- a column is nullable exactly where it has the rule NULL
+abbrev pub is_nullable : Definition → Bool
+is_nullable d = list_any is_null_rule d.rules
+
+abbrev pub is_nullable_key : Definition → Bool
+is_nullable_key d = is_key d && is_nullable d
 
 -- the default domain
 abbrev pub low_default : ℤ
@@ -98,6 +112,7 @@ may_check name kinds.Str check = false
 abbrev pub is_bad_rule : List ℕ → Kind → ColumnRule → Bool
 is_bad_rule name kind rules.PrimaryKey = false
 is_bad_rule name kind rules.NotNull = false
+is_bad_rule name kind rules.Null = false
 is_bad_rule name kind (rules.Check check) = not (may_check name kind check)
 
 -- a CHECK that names another column, or is of texts, or has its ends out of order or outside the default domain
@@ -105,15 +120,16 @@ abbrev pub has_bad_domain : Definition → Bool
 has_bad_domain d = list_any (is_bad_rule d.name d.kind) d.rules
 
 -- the domain of a column: that of its CHECK, or the default; texts have none
-abbrev pub checked : List ℕ → Kind → List ColumnRule → Column
-checked name kinds.Num [] = record { name = name; kind = kinds.Num; lo = low_default; hi = high_default }
-checked name kinds.Str [] = record { name = name; kind = kinds.Str; lo = pos 0; hi = pos 0 }
-checked name kind (rules.PrimaryKey ∷ others) = checked name kind others
-checked name kind (rules.NotNull ∷ others) = checked name kind others
-checked name kind (rules.Check check ∷ others) = record { name = name; kind = kind; lo = check.low; hi = check.high }
+abbrev pub checked : List ℕ → Kind → Bool → List ColumnRule → Column
+checked name kinds.Num nullable [] = record { name = name; kind = kinds.Num; lo = low_default; hi = high_default; nullable = nullable }
+checked name kinds.Str nullable [] = record { name = name; kind = kinds.Str; lo = pos 0; hi = pos 0; nullable = nullable }
+checked name kind nullable (rules.PrimaryKey ∷ others) = checked name kind nullable others
+checked name kind nullable (rules.NotNull ∷ others) = checked name kind nullable others
+checked name kind nullable (rules.Null ∷ others) = checked name kind nullable others
+checked name kind nullable (rules.Check check ∷ others) = record { name = name; kind = kind; lo = check.low; hi = check.high; nullable = nullable }
 
 abbrev pub column_of : Definition → Column
-column_of d = checked d.name d.kind d.rules
+column_of d = checked d.name d.kind (is_nullable d) d.rules
 
 -- the number of the first key column
 abbrev pub key_of : List Definition → ℕ
@@ -123,9 +139,10 @@ key_of (d ∷ ds) = if is_key d then 0 else key_of ds + 1
 abbrev pub table_of : List ℕ → List Definition → Table
 table_of name columns = record { name = name; columns = map column_of columns; key = key_of columns }
 
--- what the tokens say; a CREATE is judged first by its domains, then by its key
+-- what the tokens say; a CREATE is judged first by its domains, then by NULL in its key, then by its key
 abbrev pub statement_of : Tree → Result Statement Fault
 statement_of (Says s) = Ok s
 statement_of (Defines name columns) =
     if list_any has_bad_domain columns then Err (record { why = BadDomain; at = 0 })
+    else if list_any is_nullable_key columns then Err (record { why = BadNull; at = 0 })
     else (if length (filter is_key columns) == 1 then Ok (Create (table_of name columns)) else Err (record { why = NoKey; at = 0 }))

@@ -14,7 +14,7 @@ pub struct Name {
 
 pub type Names = Seq<Name>;
 
-/// A number or a text.
+/// A number or a text, or NULL where a value is given.
 #[derive(Drop)]
 pub struct Literal {
     pub cell: Cell,
@@ -44,6 +44,8 @@ pub enum Atom {
     NotBetween(Literal, Literal),
     NotOneOf(Literals),
     NotPrefix(Literal),
+    IsNull,
+    NotNull,
 }
 
 /// A condition.
@@ -146,6 +148,7 @@ pub struct Check {
 pub enum ColumnRule {
     PrimaryKey,
     NotNull,
+    Null,
     Check(Check),
 }
 

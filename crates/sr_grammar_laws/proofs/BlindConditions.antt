@@ -9,8 +9,8 @@ use Rattle.sr_grammar.specs.Words.{Word, name_of, number_of, plain_of, prefix_of
 use Rattle.sr_grammar.specs.Trees.{Cond, And, Or, more, conds_of, and_of, or_of}
 use Rattle.sr_grammar.specs.Places.{bare_name, bare_literal, bare_atom, bare_cond, bare_conds}
 use Rattle.sr_grammar_laws.specs.Reading.{Fails, Reader, one}
-use Rattle.sr_grammar_laws.specs.Readers.{literal, reference, between, in_list, like, atom, comparison, conj_of, cond_of, opens, unit}
-use Rattle.sr_grammar_laws.proofs.Places.{Blind, map_some, just, blind_one, alike_then, blind_branch, chosen-bare, alike_after, alike_map, blind_maybe, blind_list, blind_parens}
+use Rattle.sr_grammar_laws.specs.Readers.{literal, value, reference, between, in_list, like, null_test, atom, comparison, conj_of, cond_of, opens, unit}
+use Rattle.sr_grammar_laws.proofs.Places.{Blind, map_some, just, blind_one, alike_nothing, alike_then, blind_branch, chosen-bare, alike_after, alike_map, blind_maybe, blind_list, blind_parens}
 
 -- ---- single tokens
 
@@ -50,6 +50,10 @@ blind_literal =
     (alike_after bare_literal Mark (codes "-") _ _ (λ at. alike_map just bare_literal _ _ _ _ blind_number (λ n. refl)))
     blind_plain
 
+pub blind_value : Blind bare_literal value
+unfolding value
+blind_value = blind_branch bare_literal (is Key (codes "NULL")) _ _ (λ t. refl) (alike_after bare_literal Key (codes "NULL") _ _ (λ at. alike_nothing bare_literal _ _ refl)) blind_literal
+
 pub blind_reference : Blind bare_name reference
 unfolding reference
 blind_reference =
@@ -83,6 +87,14 @@ blind_like : (made : Literal → Atom) → ((text : Literal) → made (bare_lite
 unfolding like
 blind_like made e = alike_after bare_atom Key (codes "LIKE") _ _ (λ at. alike_map bare_literal bare_atom _ _ made made blind_prefix e)
 
+blind_null : Blind bare_atom null_test
+unfolding null_test
+blind_null =
+    alike_after bare_atom Key (codes "IS") _ _ (λ at.
+    blind_branch bare_atom (is Key (codes "NOT")) _ _ (λ t. refl)
+    (alike_after bare_atom Key (codes "NOT") _ _ (λ at. alike_after bare_atom Key (codes "NULL") _ _ (λ at. alike_nothing bare_atom _ _ refl)))
+    (alike_after bare_atom Key (codes "NULL") _ _ (λ at. alike_nothing bare_atom _ _ refl)))
+
 pub blind_atom : Blind bare_atom atom
 unfolding atom
 blind_atom =
@@ -93,7 +105,8 @@ blind_atom =
     (blind_branch bare_atom (is Key (codes "BETWEEN")) _ _ (λ t. refl) (blind_between Between (λ a b. refl))
     (blind_branch bare_atom (is Key (codes "IN")) _ _ (λ t. refl) (blind_in OneOf (λ all. refl))
     (blind_branch bare_atom (is Key (codes "LIKE")) _ _ (λ t. refl) (blind_like Prefix (λ text. refl))
-    (alike_then just bare_atom _ _ _ _ blind_op (λ op. alike_map bare_literal bare_atom _ _ _ _ blind_literal (λ value. refl))))))
+    (blind_branch bare_atom (is Key (codes "IS")) _ _ (λ t. refl) blind_null
+    (alike_then just bare_atom _ _ _ _ blind_op (λ op. alike_map bare_literal bare_atom _ _ _ _ blind_literal (λ value. refl)))))))
 
 pub blind_test : Blind bare_cond comparison
 unfolding comparison

@@ -12,7 +12,7 @@ use Rattle.sr_grammar.specs.Places.{bare_token, bare_name, bare_literal, bare_co
 use Rattle.sr_grammar_laws.specs.Readers.{number, kind, check, may, rules, column, create, filter, listed, begins_join, join, select, column_name, column_names, row, insert, set, update, delete, tree, statement, end, whole, unit}
 use Rattle.sr_grammar_laws.specs.Blind.{seen, IsBlind}
 use Rattle.sr_grammar_laws.proofs.Places.{Alike, Blind, map_some, just, no_place, alike_nothing, alike_then, blind_branch, blind_token, alike_after, alike_map, blind_maybe, blind_list, blind_parens, blind_many}
-use Rattle.sr_grammar_laws.proofs.BlindConditions.{bare_word, blind_name, blind_number, blind_literal, blind_reference, blind_cond, blind_unit}
+use Rattle.sr_grammar_laws.proofs.BlindConditions.{bare_word, blind_name, blind_number, blind_value, blind_reference, blind_cond, blind_unit}
 
 -- ---- CREATE
 
@@ -46,13 +46,15 @@ blind_rules (suc count) left =
     blind_branch just (may left.primary (codes "PRIMARY")) _ _ (λ t. refl)
     (alike_after just Key (codes "PRIMARY") _ _ (λ at. alike_after just Key (codes "KEY") _ _ (λ at.
     alike_map just just _ _ _ _ (blind_rules count (record left { primary = false })) (λ more. refl))))
-    (blind_branch just (may left.not_null (codes "NOT")) _ _ (λ t. refl)
+    (blind_branch just (may left.null (codes "NOT")) _ _ (λ t. refl)
     (alike_after just Key (codes "NOT") _ _ (λ at. alike_after just Key (codes "NULL") _ _ (λ at.
-    alike_map just just _ _ _ _ (blind_rules count (record left { not_null = false })) (λ more. refl))))
+    alike_map just just _ _ _ _ (blind_rules count (record left { null = false })) (λ more. refl))))
+    (blind_branch just (may left.null (codes "NULL")) _ _ (λ t. refl)
+    (alike_after just Key (codes "NULL") _ _ (λ at. alike_map just just _ _ _ _ (blind_rules count (record left { null = false })) (λ more. refl)))
     (blind_branch just (may left.check (codes "CHECK")) _ _ (λ t. refl)
     (alike_after just Key (codes "CHECK") _ _ (λ at. alike_then just just _ _ _ _ (blind_parens just check blind_check) (λ range.
     alike_map just just _ _ _ _ (blind_rules count (record left { check = false })) (λ more. refl))))
-    (alike_nothing just [] [] refl)))
+    (alike_nothing just [] [] refl))))
 
 blind_column : Blind just column
 unfolding column
@@ -134,7 +136,7 @@ blind_row : Blind bare_row row
 unfolding row
 blind_row =
     alike_after bare_row Mark (codes "(") _ _ (λ at.
-    alike_then (map bare_literal) bare_row _ _ _ _ (blind_list bare_literal (map bare_literal) (λ a all. a ∷ all) Mark (codes ",") _ blind_literal (λ a all. refl)) (λ literals.
+    alike_then (map bare_literal) bare_row _ _ _ _ (blind_list bare_literal (map bare_literal) (λ a all. a ∷ all) Mark (codes ",") _ blind_value (λ a all. refl)) (λ literals.
     alike_after bare_row Mark (codes ")") _ _ (λ at. alike_nothing bare_row _ _ refl)))
 
 blind_insert : Blind bare_tree insert
@@ -147,7 +149,7 @@ blind_insert =
 
 blind_set : Blind bare_set set
 unfolding set
-blind_set = alike_then bare_name bare_set _ _ _ _ blind_column_name (λ name. alike_after bare_set Mark (codes "=") _ _ (λ at. alike_map bare_literal bare_set _ _ _ _ blind_literal (λ value. refl)))
+blind_set = alike_then bare_name bare_set _ _ _ _ blind_column_name (λ name. alike_after bare_set Mark (codes "=") _ _ (λ at. alike_map bare_literal bare_set _ _ _ _ blind_value (λ value. refl)))
 
 blind_update : (n : ℕ) → Blind bare_tree (update n)
 unfolding update

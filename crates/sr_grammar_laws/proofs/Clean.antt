@@ -9,7 +9,7 @@ use Rattle.sr_grammar.specs.Tokens.{Kind, Key, Named, Number, Quoted, Mark, Bad,
 use Rattle.sr_grammar.specs.Words.{name_of, number_of, plain_of, prefix_of, op_of}
 use Rattle.sr_grammar.specs.Trees.{Cond}
 use Rattle.sr_grammar.specs.Rules.{Rule, One, Nothing, ◌>>=◌ as ◌▸◌, ◌or◌, Many}
-use Rattle.sr_grammar.specs.Conditions.{KEY, MARK, MaybeOf, InParens, IsLiteral, IsReference, IsBetween, IsIn, IsLike, IsAtom, IsTest, ConjOf, CondOf, IsUnit}
+use Rattle.sr_grammar.specs.Conditions.{KEY, MARK, MaybeOf, InParens, IsLiteral, IsValue, IsReference, IsBetween, IsIn, IsLike, IsNullTest, IsAtom, IsTest, ConjOf, CondOf, IsUnit}
 use Rattle.sr_grammar.specs.Columns.{Left, all_left, Only, IsNumber, IsKind, IsCheck, IsRules, IsColumn, IsCreate}
 use Rattle.sr_grammar.specs.Statements.{IsWhere, IsListed, IsJoin, IsSelect, IsColumnName, IsColumnNames, IsRow, IsInsert, IsSet, IsUpdate, IsDelete, IsStatement}
 use Rattle.sr_grammar_laws.proofs.Words.{of_kind-apart, is-of_kind, chosen, place_of-is}
@@ -90,6 +90,9 @@ clean_parens P h = clean_then _ _ (clean_mark _) (λ _. clean_then P _ h (λ a. 
 clean_literal : Clean IsLiteral
 clean_literal = clean_or _ _ (clean_then _ _ (clean_mark _) (λ at. clean_made _ _ clean_number)) clean_plain
 
+clean_value : Clean IsValue
+clean_value = clean_or _ _ (clean_made _ _ (clean_key _)) clean_literal
+
 clean_reference : Clean IsReference
 clean_reference = clean_then _ _ clean_name (λ a. clean_made _ _ (clean_maybe _ (clean_then _ _ (clean_mark _) (λ _. clean_name))))
 
@@ -102,10 +105,15 @@ clean_in made = clean_then _ _ (clean_key _) (λ _. clean_made _ made (clean_par
 clean_like : (made : Literal → Atom) → Clean (IsLike made)
 clean_like made = clean_then _ _ (clean_key _) (λ _. clean_made _ made clean_prefix)
 
+clean_null : Clean IsNullTest
+clean_null =
+    clean_then _ _ (clean_key _) (λ _. clean_or _ _ (clean_then _ _ (clean_key _) (λ _. clean_then _ _ (clean_key _) (λ _. clean_nothing _)))
+    (clean_then _ _ (clean_key _) (λ _. clean_nothing _)))
+
 clean_atom : Clean IsAtom
 clean_atom =
     clean_or _ _ (clean_then _ _ (clean_key _) (λ _. clean_or _ _ (clean_between NotBetween) (clean_or _ _ (clean_in NotOneOf) (clean_like NotPrefix))))
-    (clean_or _ _ (clean_between Between) (clean_or _ _ (clean_in OneOf) (clean_or _ _ (clean_like Prefix) (clean_then _ _ clean_op (λ op. clean_made _ _ clean_literal)))))
+    (clean_or _ _ (clean_between Between) (clean_or _ _ (clean_in OneOf) (clean_or _ _ (clean_like Prefix) (clean_or _ _ clean_null (clean_then _ _ clean_op (λ op. clean_made _ _ clean_literal))))))
 
 clean_test : Clean IsTest
 clean_test = clean_then _ _ clean_reference (λ r. clean_made _ _ clean_atom)
@@ -140,9 +148,10 @@ clean_rules : (count : ℕ) (left : Left) → Clean (IsRules count left)
 clean_rules zero left = clean_nothing []
 clean_rules (suc count) left =
     clean_or _ _ (clean_only _ _ (clean_then _ _ (clean_key _) (λ _. clean_then _ _ (clean_key _) (λ _. clean_made _ _ (clean_rules count (record left { primary = false }))))))
-    (clean_or _ _ (clean_only _ _ (clean_then _ _ (clean_key _) (λ _. clean_then _ _ (clean_key _) (λ _. clean_made _ _ (clean_rules count (record left { not_null = false }))))))
+    (clean_or _ _ (clean_only _ _ (clean_then _ _ (clean_key _) (λ _. clean_then _ _ (clean_key _) (λ _. clean_made _ _ (clean_rules count (record left { null = false }))))))
+    (clean_or _ _ (clean_only _ _ (clean_then _ _ (clean_key _) (λ _. clean_made _ _ (clean_rules count (record left { null = false })))))
     (clean_or _ _ (clean_only _ _ (clean_then _ _ (clean_key _) (λ _. clean_then _ _ (clean_parens _ clean_check) (λ range. clean_made _ _ (clean_rules count (record left { check = false }))))))
-    (clean_nothing [])))
+    (clean_nothing []))))
 
 clean_column : Clean IsColumn
 clean_column = clean_then _ _ clean_name (λ name. clean_then _ _ clean_column_kind (λ k. clean_made _ _ (clean_rules 3 all_left)))
@@ -175,7 +184,7 @@ clean_column_names : Clean IsColumnNames
 clean_column_names = clean_or _ _ (clean_parens _ (clean_list _ _ _ (clean_mark _) clean_column_name)) (clean_nothing [])
 
 clean_row : Clean IsRow
-clean_row = clean_then _ _ (clean_mark _) (λ at. clean_then _ _ (clean_list _ _ _ (clean_mark _) clean_literal) (λ literals. clean_then _ _ (clean_mark _) (λ _. clean_nothing _)))
+clean_row = clean_then _ _ (clean_mark _) (λ at. clean_then _ _ (clean_list _ _ _ (clean_mark _) clean_value) (λ literals. clean_then _ _ (clean_mark _) (λ _. clean_nothing _)))
 
 clean_insert : Clean IsInsert
 clean_insert =
@@ -183,7 +192,7 @@ clean_insert =
     clean_then _ _ (clean_key _) (λ _. clean_made _ _ (clean_list _ _ _ (clean_mark _) clean_row))))))
 
 clean_set : Clean IsSet
-clean_set = clean_then _ _ clean_column_name (λ name. clean_then _ _ (clean_mark _) (λ _. clean_made _ _ clean_literal))
+clean_set = clean_then _ _ clean_column_name (λ name. clean_then _ _ (clean_mark _) (λ _. clean_made _ _ clean_value))
 
 clean_update : (n : ℕ) → Clean (IsUpdate n)
 clean_update n =

@@ -4,7 +4,7 @@ use Rattle.std.specs.Prelude.{◌&&◌, codes}
 use Rattle.std.specs.Str.{bytes_eq}
 use Rattle.std.proofs.lemmas.Bool.{cond-false}
 use Rattle.sr_cell.specs.declared.table.Kind.TheVariants as kinds
-use Rattle.sr_grammar.specs.declared.statement.ColumnRule.TheVariants.{PrimaryKey, NotNull, Check as Checks}
+use Rattle.sr_grammar.specs.declared.statement.ColumnRule.TheVariants.{PrimaryKey, NotNull, Null, Check as Checks}
 use Rattle.sr_grammar.specs.Tokens.{Key, Number, Mark, Tok, is, is_kind, of_kind}
 use Rattle.sr_grammar.specs.Words.{place_of, number_of, minus}
 use Rattle.sr_grammar.specs.Trees.{Defines}
@@ -98,7 +98,7 @@ both_only {A = A} false w p q P Q more hp hq begins apart =
 
 -- what goes on with the rules of a column
 abbrev pub rules_more : Left → Tok → Bool
-rules_more left = or_test (may left.primary (codes "PRIMARY")) (or_test (may left.not_null (codes "NOT")) (or_test (may left.check (codes "CHECK")) no_more))
+rules_more left = or_test (may left.primary (codes "PRIMARY")) (or_test (may left.null (codes "NOT")) (or_test (may left.null (codes "NULL")) (or_test (may left.check (codes "CHECK")) no_more)))
 
 may_apart : (b : Bool) (v w : List ℕ) → (is_kind Key Key && bytes_eq v w) ≡ false → Apart (is Key v) (may b w)
 may_apart true v w d t e = is-apart Key Key v w d t e
@@ -114,21 +114,29 @@ never_may : (w : List ℕ) (ts : List Tok) → next_is (may false w) ts ≡ fals
 never_may w [] = refl
 never_may w (t ∷ ts) = refl
 
--- the three tests behind the rules
+-- the four tests behind the rules
 first_more : (left : Left) (ts : List Tok) → next_is (rules_more left) ts ≡ false → next_is (may left.primary (codes "PRIMARY")) ts ≡ false
-first_more left ts e = (next_or (may left.primary (codes "PRIMARY")) (or_test (may left.not_null (codes "NOT")) (or_test (may left.check (codes "CHECK")) no_more)) ts e).0
+first_more left ts e = (next_or (may left.primary (codes "PRIMARY")) _ ts e).0
 
-others : (left : Left) (ts : List Tok) → next_is (rules_more left) ts ≡ false → next_is (or_test (may left.not_null (codes "NOT")) (or_test (may left.check (codes "CHECK")) no_more)) ts ≡ false
-others left ts e = (next_or (may left.primary (codes "PRIMARY")) (or_test (may left.not_null (codes "NOT")) (or_test (may left.check (codes "CHECK")) no_more)) ts e).1
+second_more : (left : Left) (ts : List Tok) → next_is (rules_more left) ts ≡ false → next_is (may left.null (codes "NOT")) ts ≡ false
+second_more left ts e = (next_or (may left.null (codes "NOT")) _ ts (next_or (may left.primary (codes "PRIMARY")) _ ts e).1).0
 
-second_more : (left : Left) (ts : List Tok) → next_is (rules_more left) ts ≡ false → next_is (may left.not_null (codes "NOT")) ts ≡ false
-second_more left ts e = (next_or (may left.not_null (codes "NOT")) (or_test (may left.check (codes "CHECK")) no_more) ts (others left ts e)).0
+behind_two : (left : Left) (ts : List Tok) → next_is (rules_more left) ts ≡ false → next_is (or_test (may left.null (codes "NULL")) (or_test (may left.check (codes "CHECK")) no_more)) ts ≡ false
+behind_two left ts e = (next_or (may left.null (codes "NOT")) _ ts (next_or (may left.primary (codes "PRIMARY")) _ ts e).1).1
 
-third_more : (left : Left) (ts : List Tok) → next_is (rules_more left) ts ≡ false → next_is (may left.check (codes "CHECK")) ts ≡ false
-third_more left ts e = (next_or (may left.check (codes "CHECK")) no_more ts ((next_or (may left.not_null (codes "NOT")) (or_test (may left.check (codes "CHECK")) no_more) ts (others left ts e)).1)).0
+third_more : (left : Left) (ts : List Tok) → next_is (rules_more left) ts ≡ false → next_is (may left.null (codes "NULL")) ts ≡ false
+third_more left ts e = (next_or (may left.null (codes "NULL")) _ ts (behind_two left ts e)).0
 
-all_three : (a b c : Bool) (ts : List Tok) → next_is (may a (codes "PRIMARY")) ts ≡ false → next_is (may b (codes "NOT")) ts ≡ false → next_is (may c (codes "CHECK")) ts ≡ false → next_is (rules_more (record { primary = a; not_null = b; check = c })) ts ≡ false
-all_three a b c ts e f g = or_next (may a (codes "PRIMARY")) _ ts e (or_next (may b (codes "NOT")) _ ts f (or_next (may c (codes "CHECK")) no_more ts g (none_more ts)))
+fourth_more : (left : Left) (ts : List Tok) → next_is (rules_more left) ts ≡ false → next_is (may left.check (codes "CHECK")) ts ≡ false
+fourth_more left ts e = (next_or (may left.check (codes "CHECK")) no_more ts (next_or (may left.null (codes "NULL")) _ ts (behind_two left ts e)).1).0
+
+all_four : (a b c : Bool) (ts : List Tok) → next_is (may a (codes "PRIMARY")) ts ≡ false → next_is (may b (codes "NOT")) ts ≡ false → next_is (may b (codes "NULL")) ts ≡ false → next_is (may c (codes "CHECK")) ts ≡ false → next_is (rules_more (record { primary = a; null = b; check = c })) ts ≡ false
+all_four a b c ts e f g h =
+    or_next (may a (codes "PRIMARY")) _ ts e (or_next (may b (codes "NOT")) _ ts f (or_next (may b (codes "NULL")) _ ts g (or_next (may c (codes "CHECK")) no_more ts h (none_more ts))))
+
+-- neither NULL nor NOT NULL again
+none_of_null : (left : Left) (ts : List Tok) → next_is (rules_more left) ts ≡ false → next_is (rules_more (record left { null = false })) ts ≡ false
+none_of_null left ts e = all_four left.primary false left.check ts (first_more left ts e) (never_may (codes "NOT") ts) (never_may (codes "NULL") ts) (fourth_more left ts e)
 
 pub both_rules : (k : ℕ) (left : Left) → Both (rules k left) (rules k left) (IsRules k left) (IsRules k left) (rules_more left)
 unfolding rules
@@ -137,22 +145,29 @@ both_rules (suc k) left =
     let more : Tok → Bool = rules_more left in
     both_only left.primary (codes "PRIMARY") _ _ _ _ more
     (both_after Key (codes "PRIMARY") _ _ _ _ more refl (λ _. both_after Key (codes "KEY") _ _ _ _ more refl (λ _.
-    both_map _ _ _ _ more (λ r. PrimaryKey ∷ r) (both_more _ _ _ _ _ more (λ ts e. all_three false left.not_null left.check ts (never_may (codes "PRIMARY") ts) (second_more left ts e) (third_more left ts e)) (both_rules k (record left { primary = false }))))))
-    (both_only left.not_null (codes "NOT") _ _ _ _ more
+    both_map _ _ _ _ more (λ r. PrimaryKey ∷ r) (both_more _ _ _ _ _ more (λ ts e. all_four false left.null left.check ts (never_may (codes "PRIMARY") ts) (second_more left ts e) (third_more left ts e) (fourth_more left ts e)) (both_rules k (record left { primary = false }))))))
+    (both_only left.null (codes "NOT") _ _ _ _ more
     (both_after Key (codes "NOT") _ _ _ _ more refl (λ _. both_after Key (codes "NULL") _ _ _ _ more refl (λ _.
-    both_map _ _ _ _ more (λ r. NotNull ∷ r) (both_more _ _ _ _ _ more (λ ts e. all_three left.primary false left.check ts (first_more left ts e) (never_may (codes "NOT") ts) (third_more left ts e)) (both_rules k (record left { not_null = false }))))))
+    both_map _ _ _ _ more (λ r. NotNull ∷ r) (both_more _ _ _ _ _ more (none_of_null left) (both_rules k (record left { null = false }))))))
+    (both_only left.null (codes "NULL") _ _ _ _ more
+    (both_after Key (codes "NULL") _ _ _ _ more refl (λ _.
+    both_map _ _ _ _ more (λ r. Null ∷ r) (both_more _ _ _ _ _ more (none_of_null left) (both_rules k (record left { null = false })))))
     (both_only left.check (codes "CHECK") _ _ _ _ more
     (both_after Key (codes "CHECK") _ _ _ _ more refl (λ _.
     both_then _ _ _ _ no_more _ _ _ _ more (both_parens _ _ _ _ no_more both_check (not_apart _))
-    (λ range. both_map _ _ _ _ more (λ r. Checks range ∷ r) (both_more _ _ _ _ _ more (λ ts e. all_three left.primary left.not_null false ts (first_more left ts e) (second_more left ts e) (never_may (codes "CHECK") ts)) (both_rules k (record left { check = false }))))
+    (λ range. both_map _ _ _ _ more (λ r. Checks range ∷ r) (both_more _ _ _ _ _ more (λ ts e. all_four left.primary left.null false ts (first_more left ts e) (second_more left ts e) (third_more left ts e) (never_may (codes "CHECK") ts)) (both_rules k (record left { check = false }))))
     (λ a x b y rest u v w. none_more (y ++ rest))))
     (both_nothing [] more)
     (begins_then _ _ _ (begins_token Key (codes "CHECK")))
-    (not_nothing [] _ more (third_more left)))
+    (not_nothing [] _ more (fourth_more left)))
+    (begins_then _ _ _ (begins_token Key (codes "NULL")))
+    (not_or _ _ _ more (not_only left.check left.null (codes "CHECK") (codes "NULL") _ more refl) (not_nothing [] _ more (third_more left))))
     (begins_then _ _ _ (begins_token Key (codes "NOT")))
-    (not_or _ _ _ more (not_only left.check left.not_null (codes "CHECK") (codes "NOT") _ more refl) (not_nothing [] _ more (second_more left))))
+    (not_or _ _ _ more (not_only left.null left.null (codes "NULL") (codes "NOT") _ more refl) (not_or _ _ _ more (not_only left.check left.null (codes "CHECK") (codes "NOT") _ more refl) (not_nothing [] _ more (second_more left)))))
     (begins_then _ _ _ (begins_token Key (codes "PRIMARY")))
-    (not_or _ _ _ more (not_only left.not_null left.primary (codes "NOT") (codes "PRIMARY") _ more refl) (not_or _ _ _ more (not_only left.check left.primary (codes "CHECK") (codes "PRIMARY") _ more refl) (not_nothing [] _ more (first_more left))))
+    (not_or _ _ _ more (not_only left.null left.primary (codes "NOT") (codes "PRIMARY") _ more refl)
+    (not_or _ _ _ more (not_only left.null left.primary (codes "NULL") (codes "PRIMARY") _ more refl)
+    (not_or _ _ _ more (not_only left.check left.primary (codes "CHECK") (codes "PRIMARY") _ more refl) (not_nothing [] _ more (first_more left)))))
 
 -- ---- columns
 
@@ -170,7 +185,7 @@ both_column =
 
 -- a mark that does not go on with a column
 ends_column : (m : List ℕ) → Apart (is Mark m) column_more
-ends_column m t e = rw (is_key-mark (codes "PRIMARY"), is_key-mark (codes "NOT"), is_key-mark (codes "CHECK")) refl
+ends_column m t e = rw (is_key-mark (codes "PRIMARY"), is_key-mark (codes "NOT"), is_key-mark (codes "NULL"), is_key-mark (codes "CHECK")) refl
   where
     is_key-mark : (w : List ℕ) → is Key w t ≡ false
     is_key-mark w = of_kind-is Mark Key w refl t (is-of_kind Mark m t e)

@@ -1,7 +1,7 @@
 -- The readers of conditions keep their rules.
 use Rattle.std.proofs.lemmas.List.{append-nil}
 use Rattle.std.proofs.Common.{◌≡◌, ℕ, zero, suc, Bool, true, false, List, [], ◌∷◌, ◌++◌, inl, inr, Option, Some, None, refl, sym, ap, ◌∙◌, append_assoc}
-use Rattle.std.specs.Prelude.{◌||◌, if◌then◌else◌, codes}
+use Rattle.std.specs.Prelude.{◌||◌, ◌&&◌, if◌then◌else◌, codes}
 use Rattle.std.specs.Str.{bytes_eq}
 use Rattle.std.proofs.lemmas.Bool.{cond-false, or_cases, and_parts}
 use Rattle.sr_cell.specs.declared.cell.Cell.TheVariants.{Str}
@@ -9,16 +9,16 @@ use Rattle.sr_grammar.specs.declared.statement.Literal.{Literal}
 use Rattle.sr_grammar.specs.declared.statement.Op.{Op}
 use Rattle.sr_grammar.specs.declared.statement.Op.TheVariants.{Eq}
 use Rattle.sr_grammar.specs.declared.statement.Atom.{Atom}
-use Rattle.sr_grammar.specs.declared.statement.Atom.TheVariants.{Cmp, Between, OneOf, Prefix, NotBetween, NotOneOf, NotPrefix}
+use Rattle.sr_grammar.specs.declared.statement.Atom.TheVariants.{Cmp, Between, OneOf, Prefix, NotBetween, NotOneOf, NotPrefix, IsNull, NotNull}
 use Rattle.sr_grammar.specs.Tokens.{Kind, Key, Named, Number, Quoted, Mark, Tok, is, is_kind, of_kind}
 use Rattle.sr_grammar.specs.Trees.{Cond, Test, Not, and_of, or_of}
 use Rattle.sr_grammar.specs.Words.{Word, place_of, name_of, number_of, plain_of, prefix_of, op_of, op_in, reference_of}
 use Rattle.sr_grammar.specs.Rules.{Rule, One, Nothing, ◌>>=◌ as ◌▸◌, ◌or◌}
 use Rattle.sr_grammar_laws.specs.Reading.{Reader, and_then, nothing, one, next_is, branch}
-use Rattle.sr_grammar.specs.Conditions.{InParens, IsLiteral, IsReference, IsBetween, IsIn, IsLike, IsAtom, IsTest, ConjOf, CondOf, IsUnit}
-use Rattle.sr_grammar_laws.specs.Readers.{in_parens, literal, reference, between, in_list, like, atom, comparison, conj_of, cond_of, opens, unit}
+use Rattle.sr_grammar.specs.Conditions.{InParens, IsLiteral, IsValue, IsReference, IsBetween, IsIn, IsLike, IsNullTest, IsAtom, IsTest, ConjOf, CondOf, IsUnit}
+use Rattle.sr_grammar_laws.specs.Readers.{in_parens, literal, value, reference, between, in_list, like, null_test, atom, comparison, conj_of, cond_of, opens, unit}
 use Rattle.sr_grammar_laws.proofs.Good.{or_test, next_or}
-use Rattle.sr_grammar_laws.proofs.Deep.{Both, both_one, both_then, both_branch, both_limit}
+use Rattle.sr_grammar_laws.proofs.Deep.{Both, both_nothing, both_one, both_then, both_branch, both_limit}
 use Rattle.sr_grammar_laws.proofs.Words.{no_more, none_more, Begins, Apart, begins_one, begins_then, begins_token, is-apart, of_kind-is, is-of_kind, chosen, both_after, both_map, both_maybe, both_list, both_parens, bytes_eq-true}
 use Rattle.sr_grammar_laws.proofs.Firsts.{begins_not, not_apart, BeginsNot, not_or, not_after}
 
@@ -58,6 +58,20 @@ both_literal =
     (begins_then _ _ _ (begins_token Mark (codes "-")))
     (begins_not (One plain_of) plain (is Mark (codes "-")) no_more (begins_one plain_of plain plain_of-plain) (plain-is Mark (codes "-") refl refl))
 
+literal_no_null : BeginsNot IsLiteral (is Key (codes "NULL")) no_more
+literal_no_null =
+    not_or _ _ _ _ (not_after Mark (codes "-") _ _ _ (is-apart Mark Key _ _ refl))
+    (begins_not (One plain_of) plain (is Key (codes "NULL")) no_more (begins_one plain_of plain plain_of-plain) (plain-is Key (codes "NULL") refl refl))
+
+pub both_value : Both value value IsValue IsValue no_more
+unfolding value
+both_value =
+    both_branch (is Key (codes "NULL")) _ _ _ _ _ _ _ _ no_more
+    (both_after Key (codes "NULL") _ _ _ _ no_more refl (λ at. both_nothing _ no_more))
+    both_literal
+    (begins_then _ _ _ (begins_token Key (codes "NULL")))
+    literal_no_null
+
 abbrev pub dot : Tok → Bool
 dot = is Mark (codes ".")
 
@@ -95,6 +109,16 @@ pub both_like : (made : Literal → Atom) → Both (like made) (like made) (IsLi
 unfolding like
 both_like made = both_after Key (codes "LIKE") _ _ _ _ no_more refl (λ _. both_map _ _ _ _ no_more made (both_one prefix_of (record { cell = Str []; place = 0 }) (record { kind = Quoted; text = codes "%"; from = 0 }) refl))
 
+both_null : Both null_test null_test IsNullTest IsNullTest no_more
+unfolding null_test
+both_null =
+    both_after Key (codes "IS") _ _ _ _ no_more refl (λ _.
+    both_branch (is Key (codes "NOT")) _ _ _ _ _ _ _ _ no_more
+    (both_after Key (codes "NOT") _ _ _ _ no_more refl (λ _. both_after Key (codes "NULL") _ _ _ _ no_more refl (λ _. both_nothing NotNull no_more)))
+    (both_after Key (codes "NULL") _ _ _ _ no_more refl (λ _. both_nothing IsNull no_more))
+    (begins_then _ _ _ (begins_token Key (codes "NOT")))
+    (not_after Key (codes "NULL") _ _ _ (is-apart Key Key _ _ refl)))
+
 chosen_if : {A : Type 0} (b : Bool) (o : Option A) (a : A) → (if b then o else None) ≡ Some a → b ≡ true
 chosen_if true o a e = refl
 chosen_if false o a e = absurd cc
@@ -121,6 +145,9 @@ Compares = One op_of ▸ λ op. IsLiteral ▸ λ value. Nothing (Cmp op value)
 not_compares : (k : Kind) (text : List ℕ) (more : Tok → Bool) → is_kind Mark k ≡ false → BeginsNot Compares (is k text) more
 not_compares k text more differ = begins_not Compares (of_kind Mark) (is k text) more (begins_then _ _ _ (begins_one op_of (of_kind Mark) op_of-mark)) (of_kind-is Mark k text differ)
 
+not_null_compares : (text : List ℕ) → (is_kind Key Key && bytes_eq (codes "IS") text) ≡ false → BeginsNot (IsNullTest or Compares) (is Key text) no_more
+not_null_compares text differ = not_or _ _ _ _ (not_after Key (codes "IS") _ _ _ (is-apart Key Key _ _ differ)) (not_compares Key text no_more refl)
+
 both_compares : Both (and_then (one op_of) (λ op. and_then literal (λ value. nothing (Cmp op value)))) (and_then (one op_of) (λ op. and_then literal (λ value. nothing (Cmp op value)))) Compares Compares no_more
 both_compares = both_then _ _ _ _ no_more _ _ _ _ no_more (both_one op_of Eq (record { kind = Mark; text = codes "="; from = 0 }) refl) (λ op. both_map _ _ _ _ no_more (Cmp op) both_literal) (λ a x b y rest u v w. none_more (y ++ rest))
 
@@ -137,21 +164,24 @@ both_atom =
     (not_or _ _ _ _ (not_after Key (codes "IN") _ _ _ (is-apart Key Key _ _ refl)) (not_after Key (codes "LIKE") _ _ _ (is-apart Key Key _ _ refl)))))
     (both_branch (is Key (codes "BETWEEN")) _ _ _ _ _ _ _ _ no_more (both_between Between)
     (both_branch (is Key (codes "IN")) _ _ _ _ _ _ _ _ no_more (both_in OneOf)
-    (both_branch (is Key (codes "LIKE")) _ _ _ _ _ _ _ _ no_more (both_like Prefix) both_compares
-    (begins_then _ _ _ (begins_token Key (codes "LIKE")))
+    (both_branch (is Key (codes "LIKE")) _ _ _ _ _ _ _ _ no_more (both_like Prefix)
+    (both_branch (is Key (codes "IS")) _ _ _ _ _ _ _ _ no_more both_null both_compares
+    (begins_then _ _ _ (begins_token Key (codes "IS")))
     (not_compares Key _ no_more refl))
+    (begins_then _ _ _ (begins_token Key (codes "LIKE")))
+    (not_null_compares _ refl))
     (begins_then _ _ _ (begins_token Key (codes "IN")))
-    (not_or _ _ _ _ (not_after Key (codes "LIKE") _ _ _ (is-apart Key Key _ _ refl)) (not_compares Key _ no_more refl)))
+    (not_or _ _ _ _ (not_after Key (codes "LIKE") _ _ _ (is-apart Key Key _ _ refl)) (not_null_compares _ refl)))
     (begins_then _ _ _ (begins_token Key (codes "BETWEEN")))
-    (not_or _ _ _ _ (not_after Key (codes "IN") _ _ _ (is-apart Key Key _ _ refl)) (not_or _ _ _ _ (not_after Key (codes "LIKE") _ _ _ (is-apart Key Key _ _ refl)) (not_compares Key _ no_more refl))))
+    (not_or _ _ _ _ (not_after Key (codes "IN") _ _ _ (is-apart Key Key _ _ refl)) (not_or _ _ _ _ (not_after Key (codes "LIKE") _ _ _ (is-apart Key Key _ _ refl)) (not_null_compares _ refl))))
     (begins_then _ _ _ (begins_token Key (codes "NOT")))
-    (not_or _ _ _ _ (not_after Key (codes "BETWEEN") _ _ _ (is-apart Key Key _ _ refl)) (not_or _ _ _ _ (not_after Key (codes "IN") _ _ _ (is-apart Key Key _ _ refl)) (not_or _ _ _ _ (not_after Key (codes "LIKE") _ _ _ (is-apart Key Key _ _ refl)) (not_compares Key _ no_more refl))))
+    (not_or _ _ _ _ (not_after Key (codes "BETWEEN") _ _ _ (is-apart Key Key _ _ refl)) (not_or _ _ _ _ (not_after Key (codes "IN") _ _ _ (is-apart Key Key _ _ refl)) (not_or _ _ _ _ (not_after Key (codes "LIKE") _ _ _ (is-apart Key Key _ _ refl)) (not_null_compares _ refl))))
 
 -- an atom does not begin with a point
 atom_no_dot : BeginsNot IsAtom dot no_more
 atom_no_dot =
     not_or _ _ _ _ (not_after Key (codes "NOT") _ _ _ (is-apart Key Mark _ _ refl))
-    (not_or _ _ _ _ (not_after Key (codes "BETWEEN") _ _ _ (is-apart Key Mark _ _ refl)) (not_or _ _ _ _ (not_after Key (codes "IN") _ _ _ (is-apart Key Mark _ _ refl)) (not_or _ _ _ _ (not_after Key (codes "LIKE") _ _ _ (is-apart Key Mark _ _ refl)) compares)))
+    (not_or _ _ _ _ (not_after Key (codes "BETWEEN") _ _ _ (is-apart Key Mark _ _ refl)) (not_or _ _ _ _ (not_after Key (codes "IN") _ _ _ (is-apart Key Mark _ _ refl)) (not_or _ _ _ _ (not_after Key (codes "LIKE") _ _ _ (is-apart Key Mark _ _ refl)) (not_or _ _ _ _ (not_after Key (codes "IS") _ _ _ (is-apart Key Mark _ _ refl)) compares))))
   where
     compares : BeginsNot Compares dot no_more
     compares a x rest p stop = let t = p.4 in rw (p.3, append_assoc p.1 p.2 rest, t.2) (op_of-dot t.0 p.0 t.1)

@@ -13,7 +13,7 @@ use Rattle.sr_grammar_laws.proofs.Good.{or_test, next_or, or_next}
 use Rattle.sr_grammar_laws.proofs.Deep.{Both, both_nothing, both_then, both_branch, both_many}
 use Rattle.sr_grammar_laws.proofs.Words.{no_more, none_more, Begins, Apart, begins_one, begins_then, begins_or, begins_wide, begins_token, is-apart, of_kind-is, is-of_kind, chosen, both_token, both_after, both_map, both_more, both_maybe, both_list, both_parens}
 use Rattle.sr_grammar_laws.proofs.Firsts.{begins_not, not_apart, BeginsNot, not_after, follow, not_maybe, not_made}
-use Rattle.sr_grammar_laws.proofs.LawsOfConditions.{name_one, both_literal, dot, both_reference, cond_more, both_cond, both_unit}
+use Rattle.sr_grammar_laws.proofs.LawsOfConditions.{name_one, both_value, dot, both_reference, cond_more, both_cond, both_unit}
 
 abbrev comma : Tok → Bool
 comma = is Mark (codes ",")
@@ -181,7 +181,7 @@ pub both_row : Both row row IsRow IsRow no_more
 unfolding row
 both_row =
     both_after Mark (codes "(") _ _ _ _ no_more refl (λ at.
-    both_then _ _ _ _ (or_test comma no_more) _ _ _ _ no_more (both_list (λ a all. a ∷ all) Mark (codes ",") _ _ _ _ no_more refl both_literal (not_apart _))
+    both_then _ _ _ _ (or_test comma no_more) _ _ _ _ no_more (both_list (λ a all. a ∷ all) Mark (codes ",") _ _ _ _ no_more refl both_value (not_apart _))
     (λ literals. both_after Mark (codes ")") _ _ _ _ no_more refl (λ _. both_nothing _ no_more))
     (follow _ _ _ _ (λ literals. not_after Mark (codes ")") _ _ _ close_comma)))
 
@@ -203,7 +203,7 @@ pub both_set : Both set set IsSet IsSet no_more
 unfolding set
 both_set =
     both_then _ _ _ _ no_more _ _ _ _ no_more both_column_name
-    (λ name. both_after Mark (codes "=") _ _ _ _ no_more refl (λ _. both_map _ _ _ _ no_more _ both_literal))
+    (λ name. both_after Mark (codes "=") _ _ _ _ no_more refl (λ _. both_map _ _ _ _ no_more _ both_value))
     (λ a x b y rest u v w. none_more (y ++ rest))
 
 pub both_update : (n : ℕ) → Both (update n) (update (suc n)) (IsUpdate n) (IsUpdate (suc n)) tree_more

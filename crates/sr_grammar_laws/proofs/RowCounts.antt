@@ -5,11 +5,11 @@ use Rattle.std.specs.List.{list_any}
 use Rattle.std.proofs.lemmas.List.{length-append}
 use Rattle.sr_cell.specs.declared.table.Table.{Table}
 use Rattle.sr_cell.specs.declared.fault.Fault.{Fault}
-use Rattle.sr_cell.specs.declared.fault.Why.TheVariants.{BadDomain, NoKey}
+use Rattle.sr_cell.specs.declared.fault.Why.TheVariants.{BadDomain, BadNull, NoKey}
 use Rattle.sr_grammar.specs.declared.statement.Insert.{Insert}
 use Rattle.sr_grammar.specs.Tokens.{Tok, tokens_of}
 use Rattle.sr_grammar.specs.declared.statement.Definition.{Definition}
-use Rattle.sr_grammar.specs.Trees.{Statement, Create, Inserts, Tree, Defines, Says as Saying, statement_of, table_of, is_key, has_bad_domain}
+use Rattle.sr_grammar.specs.Trees.{Statement, Create, Inserts, Tree, Defines, Says as Saying, statement_of, table_of, is_key, is_nullable_key, has_bad_domain}
 use Rattle.sr_grammar.specs.Rules.{Rule, One, ◌>>=◌ as ◌▸◌, ◌or◌, Many}
 use Rattle.sr_grammar.specs.Conditions.{MARK, ListOf}
 use Rattle.sr_grammar.specs.Columns.{IsCreate}
@@ -17,19 +17,23 @@ use Rattle.sr_grammar.specs.Statements.{IsRow, IsSelect, IsInsert, IsUpdate, IsD
 use Rattle.sr_grammar.specs.Says.{most_levels, Says}
 use Rattle.sr_grammar_laws.proofs.Columns.{tokens_short}
 
-abbrev pub judged : Bool → Bool → Table → Result Statement Fault
-judged x y t = if x then Err (record { why = BadDomain; at = 0 }) else (if y then Ok (Create t) else Err (record { why = NoKey; at = 0 }))
+abbrev pub judged : Bool → Bool → Bool → Table → Result Statement Fault
+judged x n y t =
+    if x then Err (record { why = BadDomain; at = 0 })
+    else if n then Err (record { why = BadNull; at = 0 })
+    else (if y then Ok (Create t) else Err (record { why = NoKey; at = 0 }))
 
 -- what is judged well is a CREATE
-pub judged_create : (x y : Bool) (t : Table) (s : Statement) → Ok s ≡ judged x y t → s ≡ Create t
-judged_create true y t s same = absurd cc
-judged_create false true t s same = cc
-judged_create false false t s same = absurd cc
+pub judged_create : (x n y : Bool) (t : Table) (s : Statement) → Ok s ≡ judged x n y t → s ≡ Create t
+judged_create true n y t s same = absurd cc
+judged_create false true y t s same = absurd cc
+judged_create false false true t s same = cc
+judged_create false false false t s same = absurd cc
 
 -- a CREATE says no INSERT
 no_insert : (name : List ℕ) (columns : List Definition) (s : Insert) → Ok (Inserts s) ≡ statement_of (Defines name columns) → ⊥
 no_insert name columns s same =
-    let create = judged_create (list_any has_bad_domain columns) (length (filter is_key columns) == 1) (table_of name columns) (Inserts s) same in cc
+    let create = judged_create (list_any has_bad_domain columns) (list_any is_nullable_key columns) (length (filter is_key columns) == 1) (table_of name columns) (Inserts s) same in cc
 
 parts : {A B : Type 0} (P : Rule A) (Q : A → Rule B) (b : B) (x : List Tok) (p : (P ▸ Q) b x) → length x ≡ length p.1 + length p.2
 parts P Q b x p = omega (arith, ap length p.3, length-append p.1 p.2)

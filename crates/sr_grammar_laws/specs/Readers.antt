@@ -1,18 +1,18 @@
 -- Reading statements from left to right, by the same words as the grammar.
 use Rattle.std.specs.Prelude.{ℕ, ℤ, pos, zero, suc, Bool, true, false, List, [], ◌∷◌, Option, Some, None, codes, ◌||◌, ◌&&◌}
-use Rattle.sr_cell.specs.declared.cell.Cell.TheVariants.{Num}
+use Rattle.sr_cell.specs.declared.cell.Cell.TheVariants.{Num, Null as null_cell}
 use Rattle.sr_cell.specs.declared.table.Kind.{Kind as ColumnKind}
 use Rattle.sr_cell.specs.declared.table.Kind.TheVariants as kinds
 use Rattle.sr_grammar.specs.declared.statement.Name.{Name}
 use Rattle.sr_grammar.specs.declared.statement.Literal.{Literal}
 use Rattle.sr_grammar.specs.declared.statement.Atom.{Atom}
-use Rattle.sr_grammar.specs.declared.statement.Atom.TheVariants.{Cmp, Between, OneOf, Prefix, NotBetween, NotOneOf, NotPrefix}
+use Rattle.sr_grammar.specs.declared.statement.Atom.TheVariants.{Cmp, Between, OneOf, Prefix, NotBetween, NotOneOf, NotPrefix, IsNull, NotNull as is_not_null}
 use Rattle.sr_grammar.specs.declared.statement.JoinOn.{JoinOn}
 use Rattle.sr_grammar.specs.declared.statement.LiteralRow.{LiteralRow}
 use Rattle.sr_grammar.specs.declared.statement.Set.{Set}
 use Rattle.sr_grammar.specs.declared.statement.Check.{Check}
 use Rattle.sr_grammar.specs.declared.statement.ColumnRule.{ColumnRule}
-use Rattle.sr_grammar.specs.declared.statement.ColumnRule.TheVariants.{PrimaryKey, NotNull, Check as Checks}
+use Rattle.sr_grammar.specs.declared.statement.ColumnRule.TheVariants.{PrimaryKey, NotNull, Null, Check as Checks}
 use Rattle.sr_grammar.specs.declared.statement.Definition.{Definition}
 use Rattle.sr_grammar.specs.Tokens.{Kind, Key, Mark, Tok, is}
 use Rattle.sr_grammar.specs.Words.{place_of, name_of, number_of, minus, plain_of, prefix_of, op_of, reference_of}
@@ -56,6 +56,11 @@ literal = branch (is Mark (codes "-")) (do
   n ← one number_of
   nothing (record { cell = Num (minus n); place = at })) (one plain_of)
 
+unfoldable pub value : Reader Literal
+value = branch (is Key (codes "NULL")) (do
+  at ← key (codes "NULL")
+  nothing (record { cell = null_cell; place = at })) literal
+
 unfoldable pub reference : Reader Name
 reference = do
   a ← one name_of
@@ -84,16 +89,28 @@ like made = do
   text ← one prefix_of
   nothing (made text)
 
+unfoldable pub null_test : Reader Atom
+null_test = do
+  _ ← key (codes "IS")
+  branch (is Key (codes "NOT")) (do
+    _ ← key (codes "NOT")
+    _ ← key (codes "NULL")
+    nothing is_not_null)
+      (do
+        _ ← key (codes "NULL")
+        nothing IsNull)
+
 unfoldable pub atom : Reader Atom
 atom =
     branch (is Key (codes "NOT")) (do
       _ ← key (codes "NOT")
       branch (is Key (codes "BETWEEN")) (between NotBetween) (branch (is Key (codes "IN")) (in_list NotOneOf) (like NotPrefix)))
     (branch (is Key (codes "BETWEEN")) (between Between) (branch (is Key (codes "IN")) (in_list OneOf) (branch (is Key (codes "LIKE")) (like Prefix)
+    (branch (is Key (codes "IS")) null_test
     (do
       op ← one op_of
       value ← literal
-      nothing (Cmp op value)))))
+      nothing (Cmp op value))))))
 
 unfoldable pub comparison : Reader Cond
 comparison = do
@@ -172,17 +189,21 @@ rules (suc count) left =
       _ ← key (codes "KEY")
       more ← rules count (record left { primary = false })
       nothing (PrimaryKey ∷ more))
-    (branch (may left.not_null (codes "NOT")) (do
+    (branch (may left.null (codes "NOT")) (do
       _ ← key (codes "NOT")
       _ ← key (codes "NULL")
-      more ← rules count (record left { not_null = false })
+      more ← rules count (record left { null = false })
       nothing (NotNull ∷ more))
+    (branch (may left.null (codes "NULL")) (do
+      _ ← key (codes "NULL")
+      more ← rules count (record left { null = false })
+      nothing (Null ∷ more))
     (branch (may left.check (codes "CHECK")) (do
       _ ← key (codes "CHECK")
       range ← in_parens check
       more ← rules count (record left { check = false })
       nothing (Checks range ∷ more))
-    (nothing [])))
+    (nothing []))))
 
 unfoldable pub column : Reader Definition
 column = do
@@ -251,7 +272,7 @@ column_names = branch (is Mark (codes "(")) (in_parens (list Mark (codes ",") co
 unfoldable pub row : Reader LiteralRow
 row = do
   at ← mark (codes "(")
-  literals ← list Mark (codes ",") literal
+  literals ← list Mark (codes ",") value
   _ ← mark (codes ")")
   nothing (record { literals = literals; place = at })
 
@@ -269,8 +290,8 @@ unfoldable pub set : Reader Set
 set = do
   name ← column_name
   _ ← mark (codes "=")
-  value ← literal
-  nothing (record { name = name; value = value })
+  given ← value
+  nothing (record { name = name; value = given })
 
 unfoldable pub update : ℕ → Reader Tree
 update n = do

@@ -219,7 +219,7 @@ impl Handle {
         match cell {
             Some(Cell::Num(n)) => *number = *n,
             Some(Cell::Str(text)) => *number = copy_out(text.as_str().as_bytes(), room) as i64,
-            None => {}
+            Some(Cell::Null) | None => {}
         }
         kind_of(cell)
     }

@@ -39,6 +39,7 @@ fn push_cell(out: &mut Bytes, cell: &Cell) -> Result<(), NoMemory>
             push_length(out, bytes.len())?;
             out.extend(bytes)
         }
+        Cell::Null => out.push(2),
     }
 }
 

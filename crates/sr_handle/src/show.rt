@@ -38,13 +38,14 @@ pub fn cell_at(rows: &[Row], row: usize, column: usize) -> Option<&Cell>
     }
 }
 
-/// 1 of a number, 2 of a text, and 0 where there is no cell.
+/// 1 of a number, 2 of a text, 3 of NULL, and 0 where there is no cell.
 pub fn kind_of(cell: Option<&Cell>) -> u32
     ensures { result ≡ kind_of (option_copied cell.entry) }
 {
     match cell {
         Some(Cell::Num(_)) => 1,
         Some(Cell::Str(_)) => 2,
+        Some(Cell::Null) => 3,
         None => 0,
     }
 }

@@ -3,10 +3,11 @@ use Rattle.std.proofs.Common.{◌≡◌, ℕ, ◌+◌, ◌≤◌, zero, suc, tru
 use Rattle.std.specs.Prelude.{Bool, ◌&&◌, ◌||◌, not, if◌then◌else◌, Option, Some, None, ℤ, pos, ◌+ℤ◌, int_lt, filter}
 use Rattle.std.specs.List.{list_all, AllByRecursion, Contains}
 use Rattle.std.proofs.lemmas.Int.{ints}
+use Rattle.std.proofs.lemmas.Bool.{and_parts}
 use Rattle.std.proofs.lemmas.Nat.{mul-le}
 use Rattle.std.proofs.lemmas.Grind.{flat_map-append}
 use Rattle.sr_cell.specs.declared.cell.Cell.{Cell}
-use Rattle.sr_cell.specs.declared.cell.Cell.TheVariants.{Num, Str}
+use Rattle.sr_cell.specs.declared.cell.Cell.TheVariants.{Num, Str, Null as NullCell}
 use Rattle.sr_cell.specs.declared.table.Column.{Column}
 use Rattle.sr_cell.specs.declared.table.Kind.{Kind}
 use Rattle.sr_cell.specs.declared.table.Kind.TheVariants.{Num as Numbers, Str as Texts}
@@ -14,12 +15,12 @@ use Rattle.sr_cell.specs.Cells.{cell_eq, cell_le}
 use Rattle.sr_cell.specs.Columns.{in_kind}
 use Rattle.sr_cell.proofs.Order.{cell_eq-sound}
 use Rattle.sr_box.specs.declared.span.Span.{Span}
-use Rattle.sr_box.specs.declared.span.Span.TheVariants.{Full, Nums, Strs}
+use Rattle.sr_box.specs.declared.span.Span.TheVariants.{Full, Nums, Strs, Null}
 use Rattle.sr_box.specs.Spans.{fits_kind}
 use Rattle.sr_box.specs.Points.{Rect, rect_fits}
-use Rattle.sr_box.specs.Corners.{text_cut, end_cut, cuts_of, first_value}
+use Rattle.sr_box.specs.Corners.{text_cut, end_cut, null_cut, cuts_of, first_value}
 use Rattle.sr_union.specs.Grid.{is_among, has_cut, first_cuts, others, distinct, grid, CutsAmong}
-use Rattle.sr_union.proofs.Cuts.{is_among-append, nums-cut, strs-cut}
+use Rattle.sr_union.proofs.Cuts.{is_among-append, nums-cut, strs-cut, cut-is}
 use Rattle.sr_model.specs.Ends.{ends}
 use Rattle.sr_model.specs.Queries.{Part}
 use Rattle.sr_history.specs.Load.{is_inside, column_ends, ends_grid}
@@ -27,32 +28,61 @@ use Rattle.sr_history.specs.Ends.{CutsIn, part_ends, EndsAmong, GridsAreFew, Cut
 use Rattle.sr_history.proofs.Distinct.{distinct-le}
 
 -- a value of the column, above its first
-abbrev inside : Kind → ℤ → ℤ → Cell → Bool
-inside k low high v = in_kind k low high v && not (cell_le v (first_value k low))
+abbrev inside : Kind → ℤ → ℤ → Bool → Cell → Bool
+inside k low high nullable v = in_kind k low high nullable v && not (cell_le v (first_value k low))
 
-text-inside : (low high : ℤ) (lo : List ℕ) (hi : Option (List ℕ)) (v : Cell) → fits_kind Texts low high (Strs lo hi) ≡ true → is_among (text_cut lo) v ≡ true → inside Texts low high v ≡ true
-text-inside low high [] hi v f h = absurd (grind arith)
-text-inside low high (b ∷ lo) hi v f h = let e = cell_eq-sound (Str (b ∷ lo)) v (grind arith) in ap (inside Texts low high) (sym e) ∙ grind arith
+text-inside : (low high : ℤ) (nullable : Bool) (lo : List ℕ) (hi : Option (List ℕ)) (v : Cell) → fits_kind Texts low high nullable (Strs lo hi) ≡ true → is_among (text_cut lo) v ≡ true
+    → inside Texts low high nullable v ≡ true
+text-inside low high nullable [] hi v f h = absurd (grind arith)
+text-inside low high nullable (b ∷ lo) hi v f h = let e = cell_eq-sound (Str (b ∷ lo)) v (grind arith) in ap (inside Texts low high nullable) (sym e) ∙ grind arith
 
-end-inside : (low high : ℤ) (lo : List ℕ) (hi : Option (List ℕ)) (v : Cell) → fits_kind Texts low high (Strs lo hi) ≡ true → is_among (end_cut hi) v ≡ true → inside Texts low high v ≡ true
-end-inside low high lo None v f h = absurd (grind arith)
-end-inside low high lo (Some []) v f h = absurd (grind arith)
-end-inside low high lo (Some (b ∷ hi)) v f h = let e = cell_eq-sound (Str (b ∷ hi)) v (grind arith) in ap (inside Texts low high) (sym e) ∙ grind arith
+end-inside : (low high : ℤ) (nullable : Bool) (lo : List ℕ) (hi : Option (List ℕ)) (v : Cell) → fits_kind Texts low high nullable (Strs lo hi) ≡ true → is_among (end_cut hi) v ≡ true
+    → inside Texts low high nullable v ≡ true
+end-inside low high nullable lo None v f h = absurd (grind arith)
+end-inside low high nullable lo (Some []) v f h = absurd (grind arith)
+end-inside low high nullable lo (Some (b ∷ hi)) v f h = let e = cell_eq-sound (Str (b ∷ hi)) v (grind arith) in ap (inside Texts low high nullable) (sym e) ∙ grind arith
 
-number-inside : (low high lo hi n : ℤ) → fits_kind Numbers low high (Nums lo hi) ≡ true → ((int_lt low lo && cell_eq (Num lo) (Num n)) || (int_lt hi high && cell_eq (Num (hi +ℤ pos 1)) (Num n))) ≡ true
-    → inside Numbers low high (Num n) ≡ true
-number-inside low high lo hi n f h = grind (arith, ints)
+number-inside : (low high : ℤ) (nullable : Bool) (lo hi n : ℤ) → fits_kind Numbers low high nullable (Nums lo hi) ≡ true
+    → ((int_lt low lo && cell_eq (Num lo) (Num n)) || (int_lt hi high && cell_eq (Num (hi +ℤ pos 1)) (Num n))) ≡ true → inside Numbers low high nullable (Num n) ≡ true
+number-inside low high nullable lo hi n f h = grind (arith, ints)
 
--- each cut of a span that fits is inside
-cut-inside : (k : Kind) (low high : ℤ) (s : Span) (v : Cell) → fits_kind k low high s ≡ true → has_cut k low high s v ≡ true → inside k low high v ≡ true
-cut-inside Numbers low high Full v f h = absurd (grind arith)
-cut-inside Texts low high Full v f h = absurd (grind arith)
-cut-inside Numbers low high (Nums lo hi) (Num n) f h = number-inside low high lo hi n f (sym (nums-cut low high lo hi (Num n)) ∙ h)
-cut-inside Numbers low high (Nums lo hi) (Str t) f h = let e = nums-cut low high lo hi (Str t) in absurd (grind (arith, e))
-cut-inside Texts low high (Nums lo hi) v f h = absurd (grind arith)
-cut-inside Numbers low high (Strs lo hi) v f h = absurd (grind arith)
-cut-inside Texts low high (Strs lo hi) v f h =
-    let e = strs-cut low high lo hi v in let x = text-inside low high lo hi v f in let y = end-inside low high lo hi v f in grind (arith, e, x, y)
+texts-inside : (low high : ℤ) (nullable : Bool) (lo : List ℕ) (hi : Option (List ℕ)) (v : Cell) → fits_kind Texts low high nullable (Strs lo hi) ≡ true → has_cut Texts low high false (Strs lo hi) v ≡ true
+    → inside Texts low high nullable v ≡ true
+texts-inside low high nullable lo hi v f h = go (is_among (text_cut lo) v) (is_among (end_cut hi) v) (sym (strs-cut low high lo hi v) ∙ h) (text-inside low high nullable lo hi v f) (end-inside low high nullable lo hi v f)
+  where
+    go : (a b : Bool) → (a || b) ≡ true → (a ≡ true → inside Texts low high nullable v ≡ true) → (b ≡ true → inside Texts low high nullable v ≡ true) → inside Texts low high nullable v ≡ true
+    go true b e first second = first refl
+    go false b e first second = second e
+
+-- each cut among the values of a span that fits is inside
+value-inside : (k : Kind) (low high : ℤ) (nullable : Bool) (s : Span) (v : Cell) → fits_kind k low high nullable s ≡ true → has_cut k low high false s v ≡ true → inside k low high nullable v ≡ true
+value-inside Numbers low high nullable Full v f h = absurd (grind arith)
+value-inside Texts low high nullable Full v f h = absurd (grind arith)
+value-inside Numbers low high nullable Null v f h = absurd (grind arith)
+value-inside Texts low high nullable Null v f h = absurd (grind arith)
+value-inside Numbers low high nullable (Nums lo hi) (Num n) f h = number-inside low high nullable lo hi n f (sym (nums-cut low high lo hi (Num n)) ∙ h)
+value-inside Numbers low high nullable (Nums lo hi) (Str t) f h = let e = nums-cut low high lo hi (Str t) in absurd (grind (arith, e))
+value-inside Numbers low high nullable (Nums lo hi) NullCell f h = let e = nums-cut low high lo hi NullCell in absurd (grind (arith, e))
+value-inside Texts low high nullable (Nums lo hi) v f h = absurd (grind arith)
+value-inside Numbers low high nullable (Strs lo hi) v f h = absurd (grind arith)
+value-inside Texts low high nullable (Strs lo hi) v f h = texts-inside low high nullable lo hi v f h
+
+-- so is the place before Null
+null-inside : (k : Kind) (low high : ℤ) (nullable : Bool) (v : Cell) → is_among (null_cut nullable) v ≡ true → inside k low high nullable v ≡ true
+null-inside k low high false v h = absurd (grind arith)
+null-inside k low high true (Num n) h = absurd (grind arith)
+null-inside k low high true (Str t) h = absurd (grind arith)
+null-inside Numbers low high true NullCell h = refl
+null-inside Texts low high true NullCell h = refl
+
+cut-inside : (k : Kind) (low high : ℤ) (nullable : Bool) (s : Span) (v : Cell) → fits_kind k low high nullable s ≡ true → has_cut k low high nullable s v ≡ true → inside k low high nullable v ≡ true
+cut-inside k low high nullable s v f h =
+    go _ (is_among (null_cut nullable) v) (has_cut k low high false s v) (sym (cut-is k low high nullable s v) ∙ h) (null-inside k low high nullable v) (value-inside k low high nullable s v f)
+  where
+    go : (part a b : Bool) → ((part && a) || b) ≡ true → (a ≡ true → inside k low high nullable v ≡ true) → (b ≡ true → inside k low high nullable v ≡ true) → inside k low high nullable v ≡ true
+    go true true b e first second = first refl
+    go true false b e first second = second e
+    go false a b e first second = second e
 
 -- each cut in the first column is one of its values
 first-in : (values : ℕ → List Cell) (c : ℕ) (column : Column) (columns : List Column) (rects : List Rect) (v : Cell)
@@ -60,7 +90,7 @@ first-in : (values : ℕ → List Cell) (c : ℕ) (column : Column) (columns : L
 first-in values c column columns [] v a h = absurd (grind arith)
 first-in values c column columns ([] ∷ rects) v a h = first-in values c column columns rects v a.1 h
 first-in values c column columns ((s ∷ r) ∷ rects) v a h =
-    let e = is_among-append (cuts_of column.kind column.lo column.hi s) (first_cuts column rects) v in
+    let e = is_among-append (cuts_of column.kind column.lo column.hi column.nullable s) (first_cuts column rects) v in
     let x = a.0.0 v in let y = first-in values c column columns rects v a.1 in grind (arith, e, x, y)
 
 -- and inside of it
@@ -69,8 +99,15 @@ first-inside : (column : Column) (columns : List Column) (rects : List Rect) (v 
 first-inside column columns [] v f h = absurd (grind arith)
 first-inside column columns ([] ∷ rects) v f h = absurd (grind arith)
 first-inside column columns ((s ∷ r) ∷ rects) v f h =
-    let e = is_among-append (cuts_of column.kind column.lo column.hi s) (first_cuts column rects) v in
-    let x = cut-inside column.kind column.lo column.hi s v (grind arith) in let y = first-inside column columns rects v (grind arith) in grind (arith, e, x, y)
+    let p = and_parts (rect_fits (column ∷ columns) (s ∷ r)) (list_all (rect_fits (column ∷ columns)) rects) f in
+    let fits = (and_parts (fits_kind column.kind column.lo column.hi column.nullable s) (rect_fits columns r) p.0).0 in
+    go (is_among (cuts_of column.kind column.lo column.hi column.nullable s) v) (is_among (first_cuts column rects) v)
+    (sym (is_among-append (cuts_of column.kind column.lo column.hi column.nullable s) (first_cuts column rects) v) ∙ h)
+    (cut-inside column.kind column.lo column.hi column.nullable s v fits) (first-inside column columns rects v p.1)
+  where
+    go : (a b : Bool) → (a || b) ≡ true → (a ≡ true → is_inside column v ≡ true) → (b ≡ true → is_inside column v ≡ true) → is_inside column v ≡ true
+    go true b e first second = first refl
+    go false b e first second = second e
 
 others-in : (values : ℕ → List Cell) (c : ℕ) (column : Column) (columns : List Column) (rects : List Rect)
     → AllByRecursion (CutsIn values c (column ∷ columns)) rects → AllByRecursion (CutsIn values (c + 1) columns) (others rects)

@@ -15,7 +15,7 @@ abbrev pub CutsIn : (ℕ → List Cell) → ℕ → List Column → Rect → Typ
 CutsIn values c [] r = Unit {0}
 CutsIn values c (column ∷ columns) [] = Unit {0}
 CutsIn values c (column ∷ columns) (s ∷ r) =
-    ((v : Cell) → has_cut column.kind column.lo column.hi s v ≡ true → is_among (values c) v ≡ true) × CutsIn values (c + 1) columns r
+    ((v : Cell) → has_cut column.kind column.lo column.hi column.nullable s v ≡ true → is_among (values c) v ≡ true) × CutsIn values (c + 1) columns r
 
 -- the ends of the tests of column c in the conditions of the parts
 abbrev pub part_ends : List Part → ℕ → List Cell

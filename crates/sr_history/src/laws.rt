@@ -27,17 +27,17 @@ pub fn more_columns_cover()
 /// An end counts where it lies inside of its column and above its first value, and once; a list of neighbours has two, and
 /// what is between a value and a lesser one has none.
 pub fn ends_inside_count()
-    ensures two_ends { ends_grid 0 (record { name = []; kind = Numbers; lo = pos 0; hi = pos 150 } ∷ [])
+    ensures two_ends { ends_grid 0 (record { name = []; kind = Numbers; lo = pos 0; hi = pos 150; nullable = false } ∷ [])
         (record { table = 0; need = 1; condition = Tests 0 (Between (Num (pos 30)) (Num (pos 40))) } ∷ []) ≡ 3 }
-    ensures first_and_last { ends_grid 0 (record { name = []; kind = Numbers; lo = pos 0; hi = pos 150 } ∷ [])
+    ensures first_and_last { ends_grid 0 (record { name = []; kind = Numbers; lo = pos 0; hi = pos 150; nullable = false } ∷ [])
         (record { table = 0; need = 1; condition = Tests 0 (Between (Num (pos 0)) (Num (pos 150))) } ∷ []) ≡ 1 }
-    ensures once { ends_grid 0 (record { name = []; kind = Numbers; lo = pos 0; hi = pos 150 } ∷ [])
+    ensures once { ends_grid 0 (record { name = []; kind = Numbers; lo = pos 0; hi = pos 150; nullable = false } ∷ [])
         (record { table = 0; need = 1; condition = Tests 0 (Ge (Num (pos 30))) } ∷ record { table = 0; need = 1; condition = Tests 0 (Lt (Num (pos 30))) } ∷ []) ≡ 2 }
-    ensures other_column { ends_grid 0 (record { name = []; kind = Numbers; lo = pos 0; hi = pos 150 } ∷ [])
+    ensures other_column { ends_grid 0 (record { name = []; kind = Numbers; lo = pos 0; hi = pos 150; nullable = false } ∷ [])
         (record { table = 0; need = 3; condition = Tests 1 (Ge (Num (pos 30))) } ∷ []) ≡ 1 }
-    ensures neighbours { ends_grid 0 (record { name = []; kind = Numbers; lo = pos 0; hi = pos 150 } ∷ [])
+    ensures neighbours { ends_grid 0 (record { name = []; kind = Numbers; lo = pos 0; hi = pos 150; nullable = false } ∷ [])
         (record { table = 0; need = 1; condition = Tests 0 (OneOf (Num (pos 3) ∷ Num (pos 4) ∷ Num (pos 5) ∷ [])) } ∷ []) ≡ 3 }
-    ensures crossed { ends_grid 0 (record { name = []; kind = Numbers; lo = pos 0; hi = pos 150 } ∷ [])
+    ensures crossed { ends_grid 0 (record { name = []; kind = Numbers; lo = pos 0; hi = pos 150; nullable = false } ∷ [])
         (record { table = 0; need = 1; condition = Tests 0 (Between (Num (pos 5)) (Num (pos 3))) } ∷ []) ≡ 1 }
 {}
 

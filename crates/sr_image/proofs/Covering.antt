@@ -12,10 +12,10 @@ use Rattle.sr_region.specs.Regions.{is_in}
 use Rattle.sr_image.specs.Reading.{meets_some}
 use Rattle.sr_image.proofs.Spelled.{drop-again}
 use Rattle.sr_cell.specs.declared.cell.Cell.{Cell}
-use Rattle.sr_cell.specs.declared.cell.Cell.TheVariants.{Num, Str}
+use Rattle.sr_cell.specs.declared.cell.Cell.TheVariants.{Num, Str, Null as NullCell}
 use Rattle.sr_cell.specs.Attrs.{has_column}
 use Rattle.sr_box.specs.declared.span.Span.{Span}
-use Rattle.sr_box.specs.declared.span.Span.TheVariants.{Full, Nums, Strs}
+use Rattle.sr_box.specs.declared.span.Span.TheVariants.{Full, Nums, Strs, Null}
 use Rattle.sr_cell.specs.Cells as cells
 use Rattle.sr_cell.specs.Cells.{text_le}
 use Rattle.sr_cell.proofs.Order.{text_le-trans, text_le-refl}
@@ -87,6 +87,28 @@ span-meets (Strs a b) (Strs e f) (Nums x y) c m = absurd cc
 span-meets (Strs a b) (Strs e f) (Strs x y) c m =
     let (le, ends) = both (text_le e x) (ends_within y f) c in
     text-meets a e x b f y le ends m
+span-meets (Nums a b) (Nums e f) Null c m = absurd cc
+span-meets (Nums a b) (Strs e f) Null c m = absurd cc
+span-meets (Nums a b) Null Full c m = absurd cc
+span-meets (Nums a b) Null (Nums x y) c m = absurd cc
+span-meets (Nums a b) Null (Strs x y) c m = absurd cc
+span-meets (Nums a b) Null Null c m = absurd cc
+span-meets (Strs a b) (Nums e f) Null c m = absurd cc
+span-meets (Strs a b) (Strs e f) Null c m = absurd cc
+span-meets (Strs a b) Null Full c m = absurd cc
+span-meets (Strs a b) Null (Nums x y) c m = absurd cc
+span-meets (Strs a b) Null (Strs x y) c m = absurd cc
+span-meets (Strs a b) Null Null c m = absurd cc
+span-meets Null Full t c m = refl
+span-meets Null (Nums e f) Full c m = absurd cc
+span-meets Null (Nums e f) (Nums x y) c m = absurd cc
+span-meets Null (Nums e f) (Strs x y) c m = absurd cc
+span-meets Null (Nums e f) Null c m = absurd cc
+span-meets Null (Strs e f) Full c m = absurd cc
+span-meets Null (Strs e f) (Nums x y) c m = absurd cc
+span-meets Null (Strs e f) (Strs x y) c m = absurd cc
+span-meets Null (Strs e f) Null c m = absurd cc
+span-meets Null Null t c m = refl
 
 span-has : (h t : Span) (v : Cell) → span_covers h t ≡ true → in_span t v ≡ true → in_span h v ≡ true
 span-has Full t v c m = refl
@@ -101,6 +123,14 @@ span-has (Strs e f) (Strs x y) (Str s) c m =
     let (le, ends) = both (text_le e x) (ends_within y f) c in
     let (from, below) = both (text_le x s) (is_below s y) m in
     rw (text_le-trans e x s le from, below-wider s y f ends below) refl
+span-has (Nums e f) (Nums x y) NullCell c m = absurd cc
+span-has (Strs e f) (Strs x y) NullCell c m = absurd cc
+span-has (Nums e f) Null v c m = absurd cc
+span-has (Strs e f) Null v c m = absurd cc
+span-has Null Full v c m = absurd cc
+span-has Null (Nums x y) v c m = absurd cc
+span-has Null (Strs x y) v c m = absurd cc
+span-has Null Null v c m = m
 
 span-constrains : (h t : Span) → span_covers h t ≡ true → constrains t ≡ false → constrains h ≡ false
 span-constrains Full t c m = refl
@@ -110,6 +140,12 @@ span-constrains (Nums e f) (Strs x y) c m = absurd cc
 span-constrains (Strs e f) Full c m = absurd cc
 span-constrains (Strs e f) (Nums x y) c m = absurd cc
 span-constrains (Strs e f) (Strs x y) c m = absurd cc
+span-constrains (Nums e f) Null c m = absurd cc
+span-constrains (Strs e f) Null c m = absurd cc
+span-constrains Null Full c m = absurd cc
+span-constrains Null (Nums x y) c m = absurd cc
+span-constrains Null (Strs x y) c m = absurd cc
+span-constrains Null Null c m = absurd cc
 
 -- ---- rects
 

@@ -16,7 +16,7 @@ use Rattle.std.proofs.lemmas.List.Folds.{list_all-append, list_any-append}
 use Rattle.std.proofs.lemmas.List.Sums.{sum_by-cons}
 use Rattle.std.proofs.lemmas.Str.{IsUtf8-from_is_utf8}
 use Rattle.sr_cell.specs.declared.cell.Cell.{Cell}
-use Rattle.sr_cell.specs.declared.cell.Cell.TheVariants.{Num, Str}
+use Rattle.sr_cell.specs.declared.cell.Cell.TheVariants.{Num, Str, Null}
 use Rattle.sr_cell.specs.declared.table.Column.{Column}
 use Rattle.sr_cell.specs.declared.table.Kind.{Kind}
 use Rattle.sr_cell.specs.declared.table.Kind.TheVariants.{Num as Numbers, Str as Texts}
@@ -25,11 +25,10 @@ use Rattle.sr_cell.specs.Attrs.{has_column, project_from}
 use Rattle.sr_cell.specs.Cells.{Row}
 use Rattle.sr_cell.specs.Columns.{are_bytes, in_kind, is_point, takes_kind, table_at}
 use Rattle.sr_model.specs.SortedRows.{ascend, key_lt}
-use Rattle.sr_box.specs.Corners.{first_value}
+use Rattle.sr_box.specs.Corners.{first_value, have_first}
 use Rattle.sr_box.specs.Cut.{rect_meet}
 use Rattle.sr_box.specs.Points.{Rect, in_rect, in_any, times, rect_fits, constrains_only}
 use Rattle.sr_box.proofs.Meets.{rect_meet-apart}
-use Rattle.sr_union.specs.Grid.{have_first}
 use Rattle.sr_query.specs.Bound.{is_table}
 use Rattle.sr_region.specs.Regions.{rank, is_in, IsPart, IsRowIn, IsArea, IsRegion}
 use Rattle.sr_bytes.specs.Spelling.{is_from_to, has_cell_bytes, has_row_bytes, has_rect_bytes}
@@ -165,11 +164,13 @@ module _ (t : Table) (attrs many : ℕ) where
 
 -- ---- rows
 
-cell-in : (k : Kind) (low high : _) (v : Cell) → takes_kind k low high v ≡ true → has_cell_bytes v ≡ true → in_kind k low high v ≡ true
-cell-in Numbers low high (Num n) takes bytes = takes
-cell-in Numbers low high (Str s) takes bytes = takes
-cell-in Texts low high (Num n) takes bytes = takes
-cell-in Texts low high (Str s) takes bytes = text-bytes s (second_so (nat_le (length s) 120) (is_utf8 s) bytes)
+cell-in : (k : Kind) (low high : _) (nullable : Bool) (v : Cell) → takes_kind k low high nullable v ≡ true → has_cell_bytes v ≡ true → in_kind k low high nullable v ≡ true
+cell-in Numbers low high nullable (Num n) takes bytes = takes
+cell-in Numbers low high nullable (Str s) takes bytes = takes
+cell-in Numbers low high nullable Null takes bytes = takes
+cell-in Texts low high nullable (Num n) takes bytes = takes
+cell-in Texts low high nullable Null takes bytes = takes
+cell-in Texts low high nullable (Str s) takes bytes = text-bytes s (second_so (nat_le (length s) 120) (is_utf8 s) bytes)
 
 -- a point with the cells of the columns, and the first value of each other column
 abbrev IsPointOf : List Column → ℕ → ℕ → Row → Type 0
@@ -181,7 +182,7 @@ point-of [] c attrs (v ∷ row) first takes bytes = absurd (cc)
 point-of (column ∷ columns) c attrs [] first takes bytes =
     by (has_column attrs c) refl takes (point-of columns (c + 1) attrs [] (grind arith))
   where
-    least : in_kind column.kind column.lo column.hi (first_value column.kind column.lo) ≡ true
+    least : in_kind column.kind column.lo column.hi column.nullable (first_value column.kind column.lo) ≡ true
     least = grind arith
 
     by : (b : Bool) → has_column attrs c ≡ b → (not b && takes_part (c + 1) attrs columns []) ≡ true
@@ -191,32 +192,32 @@ point-of (column ∷ columns) c attrs [] first takes bytes =
         let rest = later h refl in
         let lo = first_value column.kind column.lo in (
           lo ∷ rest.0,
-          and_from (in_kind column.kind column.lo column.hi lo) (is_point columns rest.0) least rest.1,
+          and_from (in_kind column.kind column.lo column.hi column.nullable lo) (is_point columns rest.0) least rest.1,
           ap (λ b. if b then lo ∷ project_from (c + 1) attrs rest.0 else project_from (c + 1) attrs rest.0) e ∙ rest.2,
         )
 point-of (column ∷ columns) c attrs (v ∷ row) first takes bytes =
     by (has_column attrs c) refl takes (point-of columns (c + 1) attrs row (grind arith)) (point-of columns (c + 1) attrs (v ∷ row) (grind arith))
   where
-    least : in_kind column.kind column.lo column.hi (first_value column.kind column.lo) ≡ true
+    least : in_kind column.kind column.lo column.hi column.nullable (first_value column.kind column.lo) ≡ true
     least = grind arith
 
     by : (b : Bool) → has_column attrs c ≡ b
-        → (if b then takes_kind column.kind column.lo column.hi v && takes_part (c + 1) attrs columns row else takes_part (c + 1) attrs columns (v ∷ row)) ≡ true
+        → (if b then takes_kind column.kind column.lo column.hi column.nullable v && takes_part (c + 1) attrs columns row else takes_part (c + 1) attrs columns (v ∷ row)) ≡ true
         → (takes_part (c + 1) attrs columns row ≡ true → list_all has_cell_bytes row ≡ true → IsPointOf columns (c + 1) attrs row)
         → (takes_part (c + 1) attrs columns (v ∷ row) ≡ true → list_all has_cell_bytes (v ∷ row) ≡ true → IsPointOf columns (c + 1) attrs (v ∷ row)) → IsPointOf (column ∷ columns) c attrs (v ∷ row)
     by true e h own other =
-        let takes_v = first_so (takes_kind column.kind column.lo column.hi v) (takes_part (c + 1) attrs columns row) h in
+        let takes_v = first_so (takes_kind column.kind column.lo column.hi column.nullable v) (takes_part (c + 1) attrs columns row) h in
         let bytes_v = first_so (has_cell_bytes v) (list_all has_cell_bytes row) bytes in
-        let rest = own (second_so (takes_kind column.kind column.lo column.hi v) (takes_part (c + 1) attrs columns row) h) (second_so (has_cell_bytes v) (list_all has_cell_bytes row) bytes) in (
+        let rest = own (second_so (takes_kind column.kind column.lo column.hi column.nullable v) (takes_part (c + 1) attrs columns row) h) (second_so (has_cell_bytes v) (list_all has_cell_bytes row) bytes) in (
           v ∷ rest.0,
-          and_from (in_kind column.kind column.lo column.hi v) (is_point columns rest.0) (cell-in column.kind column.lo column.hi v takes_v bytes_v) rest.1,
+          and_from (in_kind column.kind column.lo column.hi column.nullable v) (is_point columns rest.0) (cell-in column.kind column.lo column.hi column.nullable v takes_v bytes_v) rest.1,
           ap (λ b. if b then v ∷ project_from (c + 1) attrs rest.0 else project_from (c + 1) attrs rest.0) e ∙ ap (λ xs. v ∷ xs) rest.2,
         )
     by false e h own other =
         let rest = other h bytes in
         let lo = first_value column.kind column.lo in (
           lo ∷ rest.0,
-          and_from (in_kind column.kind column.lo column.hi lo) (is_point columns rest.0) least rest.1,
+          and_from (in_kind column.kind column.lo column.hi column.nullable lo) (is_point columns rest.0) least rest.1,
           ap (λ b. if b then lo ∷ project_from (c + 1) attrs rest.0 else project_from (c + 1) attrs rest.0) e ∙ rest.2,
         )
 

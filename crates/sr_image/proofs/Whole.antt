@@ -12,7 +12,7 @@ use Rattle.std.proofs.lemmas.List.Elements.{All-head, All-tail}
 use Rattle.std.proofs.lemmas.List.Folds.{list_all-append}
 use Rattle.std.proofs.lemmas.List.Sums.{sum_by-cons}
 use Rattle.sr_cell.specs.declared.cell.Cell.{Cell}
-use Rattle.sr_cell.specs.declared.cell.Cell.TheVariants.{Num, Str}
+use Rattle.sr_cell.specs.declared.cell.Cell.TheVariants.{Num, Str, Null}
 use Rattle.sr_cell.specs.declared.table.Column.{Column}
 use Rattle.sr_cell.specs.declared.table.Kind.{Kind}
 use Rattle.sr_cell.specs.declared.table.Kind.TheVariants.{Num as Numbers, Str as Texts}
@@ -25,7 +25,7 @@ use Rattle.sr_model.specs.SortedRows.{ascend, key_lt}
 use Rattle.sr_box.specs.Cut.{rect_meet, in_some, some_fits}
 use Rattle.sr_box.specs.Points.{Rect, in_rect, times, rect_fits, constrains_only}
 use Rattle.sr_box.proofs.Meets.{rect_meet-is, rect_meet-fits}
-use Rattle.sr_union.specs.Grid.{have_first}
+use Rattle.sr_box.specs.Corners.{have_first}
 use Rattle.sr_union.proofs.Low.{low_point, low-point}
 use Rattle.sr_union.proofs.Times.{times-append}
 use Rattle.sr_query.specs.Bound.{is_table}
@@ -125,34 +125,36 @@ module _ (t : Table) (attrs many : ℕ) (first : have_first t.columns ≡ true) 
 
 -- ---- rows
 
-cell-takes : (k : Kind) (low high : _) (v : Cell) → in_kind k low high v ≡ true → has_cell_bytes v ≡ true → takes_kind k low high v ≡ true
-cell-takes Numbers low high (Num n) is bytes = is
-cell-takes Numbers low high (Str s) is bytes = is
-cell-takes Texts low high (Num n) is bytes = is
-cell-takes Texts low high (Str s) is bytes = first_so (nat_le (length s) 120) (is_utf8 s) bytes
+cell-takes : (k : Kind) (low high : _) (nullable : Bool) (v : Cell) → in_kind k low high nullable v ≡ true → has_cell_bytes v ≡ true → takes_kind k low high nullable v ≡ true
+cell-takes Numbers low high nullable (Num n) is bytes = is
+cell-takes Numbers low high nullable (Str s) is bytes = is
+cell-takes Numbers low high nullable Null is bytes = is
+cell-takes Texts low high nullable (Num n) is bytes = is
+cell-takes Texts low high nullable Null is bytes = is
+cell-takes Texts low high nullable (Str s) is bytes = first_so (nat_le (length s) 120) (is_utf8 s) bytes
 
 skips : (c attrs : ℕ) (column : Column) (columns : List Column) (row : Row) → has_column attrs c ≡ false → takes_part c attrs (column ∷ columns) row ≡ takes_part (c + 1) attrs columns row
 skips c attrs column columns [] out = ap (λ b. not b && takes_part (c + 1) attrs columns []) out
-skips c attrs column columns (v ∷ row) out = ap (λ b. if b then takes_kind column.kind column.lo column.hi v && takes_part (c + 1) attrs columns row else takes_part (c + 1) attrs columns (v ∷ row)) out
+skips c attrs column columns (v ∷ row) out = ap (λ b. if b then takes_kind column.kind column.lo column.hi column.nullable v && takes_part (c + 1) attrs columns row else takes_part (c + 1) attrs columns (v ∷ row)) out
 
 takes-of : (columns : List Column) (c attrs : ℕ) (p : Row) → is_point columns p ≡ true → list_all has_cell_bytes (project_from c attrs p) ≡ true → takes_part c attrs columns (project_from c attrs p) ≡ true
 takes-of [] c attrs [] point bytes = refl
 takes-of [] c attrs (v ∷ p) point bytes = absurd (cc)
 takes-of (column ∷ columns) c attrs [] point bytes = absurd (cc)
 takes-of (column ∷ columns) c attrs (v ∷ p) point bytes =
-    by (has_column attrs c) refl bytes (takes-of columns (c + 1) attrs p (second_so (in_kind column.kind column.lo column.hi v) (is_point columns p) point))
+    by (has_column attrs c) refl bytes (takes-of columns (c + 1) attrs p (second_so (in_kind column.kind column.lo column.hi column.nullable v) (is_point columns p) point))
   where
-    own : in_kind column.kind column.lo column.hi v ≡ true
-    own = first_so (in_kind column.kind column.lo column.hi v) (is_point columns p) point
+    own : in_kind column.kind column.lo column.hi column.nullable v ≡ true
+    own = first_so (in_kind column.kind column.lo column.hi column.nullable v) (is_point columns p) point
 
     by : (b : Bool) → has_column attrs c ≡ b → list_all has_cell_bytes (if b then v ∷ project_from (c + 1) attrs p else project_from (c + 1) attrs p) ≡ true
         → (list_all has_cell_bytes (project_from (c + 1) attrs p) ≡ true → takes_part (c + 1) attrs columns (project_from (c + 1) attrs p) ≡ true)
         → takes_part c attrs (column ∷ columns) (if b then v ∷ project_from (c + 1) attrs p else project_from (c + 1) attrs p) ≡ true
     by true e h more =
         let rest : Row = project_from (c + 1) attrs p in
-        let takes = cell-takes column.kind column.lo column.hi v own (first_so (has_cell_bytes v) (list_all has_cell_bytes rest) h) in
-        ap (λ b. if b then takes_kind column.kind column.lo column.hi v && takes_part (c + 1) attrs columns rest else takes_part (c + 1) attrs columns (v ∷ rest)) e
-        ∙ and_from (takes_kind column.kind column.lo column.hi v) (takes_part (c + 1) attrs columns rest) takes (more (second_so (has_cell_bytes v) (list_all has_cell_bytes rest) h))
+        let takes = cell-takes column.kind column.lo column.hi column.nullable v own (first_so (has_cell_bytes v) (list_all has_cell_bytes rest) h) in
+        ap (λ b. if b then takes_kind column.kind column.lo column.hi column.nullable v && takes_part (c + 1) attrs columns rest else takes_part (c + 1) attrs columns (v ∷ rest)) e
+        ∙ and_from (takes_kind column.kind column.lo column.hi column.nullable v) (takes_part (c + 1) attrs columns rest) takes (more (second_so (has_cell_bytes v) (list_all has_cell_bytes rest) h))
     by false e h more = skips c attrs column columns (project_from (c + 1) attrs p) e ∙ more h
 
 module _ (t : Table) (attrs : ℕ) (rects : List Rect) where

@@ -6,12 +6,12 @@ use Rattle.std.specs.Str.{is_utf8}
 use Rattle.std.specs.Cmp.{first_so, second_so}
 use Rattle.std.proofs.lemmas.Bool.{and_from}
 use Rattle.sr_cell.specs.declared.cell.Cell.{Cell}
-use Rattle.sr_cell.specs.declared.cell.Cell.TheVariants.{Num, Str}
+use Rattle.sr_cell.specs.declared.cell.Cell.TheVariants.{Num, Str, Null as NullCell}
 use Rattle.sr_cell.specs.declared.table.Table.{Table}
 use Rattle.sr_cell.specs.Cells.{Row, text_le}
 use Rattle.sr_cell.specs.Columns.{are_bytes, table_at}
 use Rattle.sr_box.specs.declared.span.Span.{Span}
-use Rattle.sr_box.specs.declared.span.Span.TheVariants.{Full, Nums, Strs}
+use Rattle.sr_box.specs.declared.span.Span.TheVariants.{Full, Nums, Strs, Null}
 use Rattle.sr_box.specs.Points.{Rect}
 use Rattle.sr_bytes.specs.Spelling.{is_from_to, is_number, is_bound, has_cell_bytes, has_row_bytes, has_span_bytes, has_rect_bytes}
 use Rattle.sr_bytes.specs.Writing.{may_write_cell, may_write_row, may_write_span, may_write_rect}
@@ -37,6 +37,7 @@ all-so one two so (x ∷ xs) h = and_from (two x) (list_all two xs) (so x (first
 cell-so : (v : Cell) → IsTrue (has_cell_bytes v) → IsTrue (may_write_cell v)
 cell-so (Num n) h = refl
 cell-so (Str text) h = first_so (nat_le (length text) 120) (is_utf8 text) h
+cell-so NullCell h = refl
 
 row-so : (row : Row) → IsTrue (has_row_bytes row) → IsTrue (may_write_row row)
 row-so row h =
@@ -54,8 +55,8 @@ span-so (Strs lo (Some hi)) h =
     let above = second_so (is_bound lo && is_bound hi) (not (text_le hi lo)) h in
     and_from (nat_le (length lo) 121 && nat_le (length hi) 121) (not (text_le hi lo))
     (and_from (nat_le (length lo) 121) (nat_le (length hi) 121) (bound-so lo (first_so (is_bound lo) (is_bound hi) ends)) (bound-so hi (second_so (is_bound lo) (is_bound hi) ends))) above
-span-so (Strs lo None) h =
-    and_from (nat_le (length lo) 121) (not (text_le lo [])) (bound-so lo (first_so (is_bound lo) (not (text_le lo [])) h)) (second_so (is_bound lo) (not (text_le lo [])) h)
+span-so (Strs lo None) h = bound-so lo h
+span-so Null h = refl
 
 rect-so : (r : Rect) → IsTrue (has_rect_bytes r) → IsTrue (may_write_rect r)
 rect-so r h =

@@ -5,7 +5,7 @@ use Rattle.std.specs.List.Sorted.{IsPermutation}
 use Rattle.std.specs.Option.{is_some}
 use Rattle.sr_cell.specs.Cells.{text_le}
 use Rattle.sr_box.specs.declared.span.Span.{Span}
-use Rattle.sr_box.specs.declared.span.Span.TheVariants.{Full, Nums, Strs}
+use Rattle.sr_box.specs.declared.span.Span.TheVariants.{Full, Nums, Strs, Null}
 use Rattle.sr_box.specs.Cut.{rect_meet}
 use Rattle.sr_box.specs.Points.{Rect}
 use Rattle.sr_box.specs.Projected.{has_part}
@@ -56,6 +56,12 @@ span_covers (Nums lo hi) (Strs low high) = false
 span_covers (Strs lo hi) Full = false
 span_covers (Strs lo hi) (Nums low high) = false
 span_covers (Strs lo hi) (Strs low high) = text_le lo low && ends_within high hi
+span_covers (Nums lo hi) Null = false
+span_covers (Strs lo hi) Null = false
+span_covers Null Full = false
+span_covers Null (Nums low high) = false
+span_covers Null (Strs low high) = false
+span_covers Null Null = true
 
 -- each span of the rect lies within the hull's
 abbrev pub covers : Rect → Rect → Bool

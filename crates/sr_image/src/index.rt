@@ -204,12 +204,14 @@ fn sort_block(rects: &[Rect], block: &mut [usize], turn: usize)
     block.sort_unstable_by_key(|place| low_of(rects, *place, column, common));
 }
 
-/// Where the rect of that place begins in that column: at that number, or at a text, of which the bytes behind so many count.
+/// Where the rect of that place begins in that column: at that number, at a text, of which the bytes behind so many count, or at
+/// Null, which is the last.
 fn low_of(rects: &[Rect], place: usize, column: usize, common: usize) -> i64 {
     match rects.get(place) {
         Some(rect) => match rect.get(column) {
             Some(Span::Nums { lo, .. }) => *lo,
             Some(Span::Strs { lo, .. }) => number_of(lo.as_slice(), common),
+            Some(Span::Null) => i64::MAX,
             _ => i64::MIN,
         },
         None => i64::MIN,
@@ -392,6 +394,7 @@ fn wider(alloc: Global, own: &Span, span: &Span) -> Result<Span, NoMemory> {
             lo: lesser(lo, low).copy(alloc)?,
             hi: later(hi, high).copy(alloc)?,
         }),
+        (Span::Null, Span::Null) => Ok(Span::Null),
         _ => Ok(Span::Full),
     }
 }
@@ -447,6 +450,7 @@ fn span_covers(wide: &Span, span: &Span) -> bool
         (Span::Strs { lo, hi }, Span::Strs { lo: low, hi: high }) => {
             is_text_at_most(lo.as_slice(), low.as_slice()) && ends_within(high, hi)
         }
+        (Span::Null, Span::Null) => true,
         _ => false,
     }
 }

@@ -28,6 +28,7 @@ fn know_cell(cell: &Cell)
     match cell {
         Cell::Num(number) => know_number(*number),
         Cell::Str(text) => know_utf8(text.as_str()),
+        Cell::Null => {}
     }
 }
 
@@ -64,6 +65,7 @@ fn know_span(span: &Span)
             know_bytes(hi.as_slice());
         }
         Span::Strs { lo, hi: None } => know_bytes(lo.as_slice()),
+        Span::Null => {}
     }
 }
 

@@ -6,8 +6,8 @@ use Rattle.std.proofs.lemmas.Bool.Decides.{nat_tests}
 use Rattle.std.proofs.lemmas.List.{append-nil}
 use Rattle.sr_cell.specs.declared.cell.Cell.{Cell}
 use Rattle.sr_cell.specs.declared.table.Table.{Table}
-use Rattle.sr_cell.specs.Cells.{Row, cell_at, cell_eq}
-use Rattle.sr_cell.proofs.Order.{cell_eq-symm}
+use Rattle.sr_cell.specs.Cells.{Row, cell_at}
+use Rattle.sr_model.specs.Conditions.{Eq, passes as equals}
 use Rattle.sr_model.specs.Queries.{Part, Join, points_of, combinations, row_at, rows_at, all_meet, joins_hold}
 use Rattle.sr_model.specs.Queries as model
 use Rattle.sr_model.specs.Statements.{Tables}
@@ -190,26 +190,25 @@ module _ (schema : List Table) (tables : Tables) (whole : List Part) (found : Li
           → map (outputs_of outputs) (choices found (j ∷ joins) chosen) ≡ behind tables (map bound.output_of outputs) rows (part ∷ parts) (j ∷ joins)
       step j joins part parts done rows chosen right left at has cell long later =
           let v : Cell = chosen_cell chosen j.left j.column in
-          let test : Row → Bool = λ p. cell_eq (cell_at p j.key) v in
+          let test : Row → Bool = λ p. equals (Eq (cell_at p j.key)) v in
           let of_part : AreShown part.need (rows_at tables part.table) (points_of part) (found_at found j.right) =
           subst (λ i. AreShown part.need (rows_at tables part.table) (points_of part) (found_at found i)) (sym right) (shown (length done) part at) in
           map-lists (outputs_of outputs) (λ s. choices found joins (chosen ++ s ∷ [])) (rows_with found j.right j.key v)
           ∙ (sym (zip-lists (Shows part.need) (λ p. behind tables (map bound.output_of outputs) (rows ++ p ∷ []) parts joins) (λ s. map (outputs_of outputs) (choices found joins (chosen ++ s ∷ [])))
           (filter test (filter (points_of part) (rows_at tables part.table))) (rows_with found j.right j.key v)
-          (zip-filter (Shows part.need) test (λ s. cell_eq (cell_of j.key s) v) (filter (points_of part) (rows_at tables part.table)) (found_at found j.right) of_part
-          (λ p s shows. ap (λ c. cell_eq c v) (shown-cell part.need j.key p s has shows)))
+          (zip-filter (Shows part.need) test (λ s. equals (Eq (cell_of j.key s)) v) (filter (points_of part) (rows_at tables part.table)) (found_at found j.right) of_part
+          (λ p s shows. ap (λ c. equals (Eq c) v) (shown-cell part.need j.key p s has shows)))
           (λ p s shows. sym (later p s shows)))
           ∙ sym (one-more tables (map bound.output_of outputs) rows part parts (j ∷ joins) joins test holds))
         where
-          holds : (p : Row) (others : List Row) → joins_hold (j ∷ joins) (rows ++ p ∷ others) ≡ (cell_eq (cell_at p j.key) (chosen_cell chosen j.left j.column) && joins_hold joins (rows ++ p ∷ others))
+          holds : (p : Row) (others : List Row) → joins_hold (j ∷ joins) (rows ++ p ∷ others) ≡ (equals (Eq (cell_at p j.key)) (chosen_cell chosen j.left j.column) && joins_hold joins (rows ++ p ∷ others))
           holds p others =
               let one : row_at (rows ++ p ∷ others) j.left ≡ row_at rows j.left = row-front rows (p ∷ others) j.left (subst (λ n. j.left < n) (sym long) left) in
               let at_right : j.right ≡ length rows = right ∙ sym long in
               let two : row_at (rows ++ p ∷ others) j.right ≡ p = ap (row_at (rows ++ p ∷ others)) at_right ∙ row-seam rows p others in
-              let same : cell_eq (cell_at (row_at (rows ++ p ∷ others) j.left) j.column) (cell_at (row_at (rows ++ p ∷ others) j.right) j.key) ≡ cell_eq (cell_at p j.key) (chosen_cell chosen j.left j.column) =
-              ap (λ row. cell_eq (cell_at row j.column) (cell_at (row_at (rows ++ p ∷ others) j.right) j.key)) one
-              ∙ (ap (λ row. cell_eq (cell_at (row_at rows j.left) j.column) (cell_at row j.key)) two
-              ∙ (cell_eq-symm (cell_at (row_at rows j.left) j.column) (cell_at p j.key) ∙ ap (cell_eq (cell_at p j.key)) (sym cell))) in
+              let same : equals (Eq (cell_at (row_at (rows ++ p ∷ others) j.right) j.key)) (cell_at (row_at (rows ++ p ∷ others) j.left) j.column) ≡ equals (Eq (cell_at p j.key)) (chosen_cell chosen j.left j.column) =
+              ap (λ row. equals (Eq (cell_at (row_at (rows ++ p ∷ others) j.right) j.key)) (cell_at row j.column)) one
+              ∙ (ap (λ row. equals (Eq (cell_at row j.key)) (cell_at (row_at rows j.left) j.column)) two ∙ ap (equals (Eq (cell_at p j.key))) (sym cell)) in
               ap (λ b. b && joins_hold joins (rows ++ p ∷ others)) same
 
   -- the outputs of all choices that begin with rows of the first part

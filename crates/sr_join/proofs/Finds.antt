@@ -5,8 +5,10 @@ use Rattle.std.specs.Prelude.{filter, slice_get, slice_index_or, Some, if◌then
 use Rattle.std.specs.List.{prefix_len}
 use Rattle.std.specs.List.Sorted.{IsPartitionedBy}
 use Rattle.sr_cell.specs.declared.cell.Cell.{Cell}
-use Rattle.sr_cell.specs.Cells.{Row, cell_eq, cell_le}
-use Rattle.sr_cell.proofs.Order.{cell_le-trans}
+use Rattle.sr_cell.specs.declared.cell.Cell.TheVariants.{Num, Str, Null}
+use Rattle.sr_cell.specs.Cells.{Row, cell_eq, cell_le, is_null}
+use Rattle.sr_cell.proofs.Order.{cell_le-trans, cell_eq-symm}
+use Rattle.sr_model.specs.Conditions.{Eq, passes}
 use Rattle.sr_rows.proofs.Order.{key_lt-le, key_lt-not, is_first, ascend-tail, ascend-first}
 use Rattle.sr_join.specs.Shown.{Shown, cell_of, are_by}
 
@@ -129,3 +131,24 @@ missed-last key v shown (suc m) s b h at some within one le fails =
 -- no row is before the place
 pub found-none : (key : ℕ) (v : Cell) (shown : List Shown) (n : ℕ) → are_by key shown ≡ true → n ≡ place key v shown → n ≤ 0 → [] ≡ has key v shown
 found-none key v shown n h at none = let zeros : place key v shown ≡ 0 = omega (arith, at, none) in sym (has-none key v shown h zeros)
+
+-- ---- keys that a cell equals
+
+equal-is : (v w : Cell) → is_null v ≡ false → cell_eq w v ≡ passes (Eq w) v
+equal-is (Num n) w known = cell_eq-symm w (Num n)
+equal-is (Str s) w known = cell_eq-symm w (Str s)
+equal-is Null w known = absurd cc
+
+-- a cell that is not Null equals the keys that are the same cell
+pub known-equal : (key : ℕ) (v : Cell) (shown : List Shown) → is_null v ≡ false → has key v shown ≡ filter (λ s. passes (Eq (cell_of key s)) v) shown
+known-equal key v [] known = refl
+known-equal key v (s ∷ shown) known =
+    ap (λ b. if b then s ∷ has key v shown else has key v shown) (equal-is v (cell_of key s) known)
+    ∙ ap (λ rest. if passes (Eq (cell_of key s)) v then s ∷ rest else rest) (known-equal key v shown known)
+
+-- Null equals none
+pub none-equal : (key : ℕ) (v : Cell) (shown : List Shown) → is_null v ≡ true → [] ≡ filter (λ s. passes (Eq (cell_of key s)) v) shown
+none-equal key (Num n) shown null = absurd cc
+none-equal key (Str s) shown null = absurd cc
+none-equal key Null [] null = refl
+none-equal key Null (s ∷ shown) null = none-equal key Null shown null

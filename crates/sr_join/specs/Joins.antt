@@ -2,7 +2,8 @@
 use Rattle.std.specs.Prelude.{ℕ, Bool, true, false, pos, ◌≡◌, List, [], ◌∷◌, ◌++◌, map, filter, flat_map, slice_get, slice_index_or, Option, Some, None, if◌then◌else◌}
 use Rattle.sr_cell.specs.declared.cell.Cell.{Cell}
 use Rattle.sr_cell.specs.declared.cell.Cell.TheVariants.{Num}
-use Rattle.sr_cell.specs.Cells.{Row, cell_eq, cell_le}
+use Rattle.sr_cell.specs.Cells.{Row, cell_le}
+use Rattle.sr_model.specs.Conditions.{Eq, passes}
 use Rattle.sr_model.specs.Queries as model
 use Rattle.sr_query.specs.declared.condition.Output.{Output}
 use Rattle.sr_query.specs.declared.query.KeyJoin.{KeyJoin}
@@ -52,9 +53,9 @@ chosen_cell chosen part column = cell_in (slice_get chosen part) column
 abbrev pub found_at : List (List Shown) → ℕ → List Shown
 found_at found part = slice_index_or found part []
 
--- the rows of the part whose key is that cell
+-- the rows of the part whose key is that cell; of Null there are none
 abbrev pub rows_with : List (List Shown) → ℕ → ℕ → Cell → List Shown
-rows_with found part key v = filter (λ s. cell_eq (cell_of key s) v) (found_at found part)
+rows_with found part key v = filter (λ s. passes (Eq (cell_of key s)) v) (found_at found part)
 
 -- the choices that begin with these rows and go on with one row for each join
 abbrev pub choices : List (List Shown) → List model.Join → List Shown → List (List Shown)

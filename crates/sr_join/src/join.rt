@@ -34,13 +34,23 @@ fn key_at(parts: &[Part], part: usize) -> usize
 }
 
 /// The row of that part with that key, if there is one.
-fn row_of<'a>(found: &[Seq<Shown<'a>>], part: usize, key: usize, cell: &Cell) -> Option<Shown<'a>>
-    ensures { are_by key (found_at found.now part) ≡ true → option_to_list result ≡ rows_with found.now part key cell.now }
+fn row_at<'a>(found: &[Seq<Shown<'a>>], part: usize, key: usize, cell: &Cell) -> Option<Shown<'a>>
+    ensures { are_by key (found_at found.now part) ≡ true → option_to_list result ≡ filter (λ s. cell_eq (cell_of key s) cell.now) (found_at found.now part) }
 {
     match found.get(part) {
         Some(rows) => row_with(rows.as_slice(), key, cell),
         None => None,
     }
+}
+
+/// The row of that part whose key equals the cell, if there is one; Null equals none.
+fn row_of<'a>(found: &[Seq<Shown<'a>>], part: usize, key: usize, cell: &Cell) -> Option<Shown<'a>>
+    ensures { are_by key (found_at found.now part) ≡ true → option_to_list result ≡ rows_with found.now part key cell.now }
+{
+    if cell.is_null() {
+        return None;
+    }
+    row_at(found, part, key, cell)
 }
 
 /// A cell of the row that is chosen of that part.

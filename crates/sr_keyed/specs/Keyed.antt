@@ -1,7 +1,7 @@
 -- Rows by key, as contracts see them.
 use Rattle.std.specs.Prelude.{ℕ, Bool, true, false, ◌&&◌, List, map, Option, Some, None, if◌then◌else◌}
 use Rattle.sr_cell.specs.declared.cell.Cell.{Cell}
-use Rattle.sr_cell.specs.declared.cell.Cell.TheVariants.{Num, Str}
+use Rattle.sr_cell.specs.declared.cell.Cell.TheVariants.{Num, Str, Null}
 use Rattle.sr_cell.specs.declared.table.Kind.{Kind}
 use Rattle.sr_cell.specs.declared.table.Kind.TheVariants.{Num as Numbers, Str as Texts}
 use Rattle.sr_cell.specs.Cells.{Row, cell_at, cell_le, cell_eq}
@@ -12,11 +12,14 @@ pub record Keyed : Type 0 where
   pub kind : Kind
   pub rows : List Row
 
+-- Null is of each kind
 abbrev pub is_of : Kind → Cell → Bool
 is_of Numbers (Num n) = true
 is_of Numbers (Str s) = false
 is_of Texts (Num n) = false
 is_of Texts (Str s) = true
+is_of Numbers Null = true
+is_of Texts Null = true
 
 -- the row that has another's key gives way to it
 abbrev pub with_replaced : ℕ → Row → List Row → List Row

@@ -7,6 +7,7 @@ ghost use Rattle.std.specs.Range.Bound.{bound_map, IsForward};
 ghost use Rattle.std.specs.Map.{values_of, set_value};
 ghost use Rattle.std.specs.BTreeMap.{IsOrdered, insert_entry, is_at, values};
 ghost use Rattle.std.specs.BTreeMap.Range.{IsLeBy, IsLtBy, entries_between};
+ghost use Rattle.sr_cell.specs.declared.cell.Cell.TheVariants.{Null as Nothing};
 ghost use Rattle.sr_cell.specs.declared.table.Kind.{Kind as TheKind};
 ghost use Rattle.sr_cell.specs.Cells.{Row as TheRow, cell_at, cell_eq};
 ghost use Rattle.sr_cell.specs.Columns.{are_bytes, is_value, are_values};
@@ -14,7 +15,7 @@ ghost use Rattle.sr_model.specs.SortedRows.{ascend, has_key, with_row};
 ghost use Rattle.sr_model.specs.Changes.{row_with};
 ghost use Rattle.sr_keyed.specs.Keyed.{is_of, with_replaced, is_from, is_up_to, is_between};
 ghost use Rattle.sr_rows.specs.Keys.{without_key};
-ghost use Rattle.sr_keyed.specs.Entries.{AreKeyed, are_ends, bound_of};
+ghost use Rattle.sr_keyed.specs.Entries.{AreKeyed, low_of, are_ends, bound_of};
 ghost use Rattle.sr_keyed.specs.Places.{is_indexed, if_passes, rows_at};
 
 use crate::index::{Index, Place};
@@ -60,7 +61,7 @@ fn know_value(cell: &Cell)
     ensures { IsTrue (is_value cell.now) }
 {
     match cell {
-        Cell::Num(_) => {}
+        Cell::Num(_) | Cell::Null => {}
         Cell::Str(text) => know_bytes(text.as_str().as_bytes()),
     }
 }
@@ -103,14 +104,26 @@ fn put_in_place(rows: &mut BTreeMap<Cell, Row>, key: usize, row: Row)
     }
 }
 
-/// Whether the cell is of the kind.
+/// Whether the cell is of the kind, as Null is of each.
 fn is_of(kind: Kind, cell: &Cell) -> bool
     ensures { result ≡ is_of kind cell.now }
 {
     match (kind, cell) {
         (Kind::Num, Cell::Num(_)) => true,
         (Kind::Str, Cell::Str(_)) => true,
+        (_, Cell::Null) => true,
         _ => false,
+    }
+}
+
+/// A lower end for cells of a kind: above a cell of another kind stands Null alone.
+fn low_of<'b>(kind: Kind, low: Option<&'b Cell>, null: &'b Cell) -> Option<&'b Cell>
+    requires { null.now ≡ Nothing }
+    ensures { option_copied result ≡ low_of kind (option_copied low.entry) }
+{
+    match low {
+        Some(end) if !is_of(kind, end) => Some(null),
+        _ => low,
     }
 }
 
@@ -347,6 +360,8 @@ impl KeyedRows {
     ) -> Result<Vec<&'a Row>, NoMemory>
         ensures { IfOk result (λ rows. map (λ r. r.now) rows.items ≡ filter (is_between self.now.key (option_copied low.entry) (option_copied high.entry)) self.now.rows) }
     {
+        let null = Cell::Null;
+        let low = low_of(self.kind, low, &null);
         // No key is between other ends, and a map's range asks for ends in order.
         if !are_ends(self.kind, low, high) {
             return Ok(Vec::new(alloc));

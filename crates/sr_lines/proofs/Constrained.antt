@@ -10,13 +10,13 @@ use Rattle.sr_cell.specs.declared.table.Column.{Column}
 use Rattle.sr_cell.specs.Cells.{cell_eq}
 use Rattle.sr_cell.specs.Columns.{table_at}
 use Rattle.sr_cell.specs.Attrs.{has_column}
-use Rattle.sr_box.specs.declared.span.Span.TheVariants.{Full, Nums, Strs}
+use Rattle.sr_box.specs.declared.span.Span.TheVariants.{Full, Nums, Strs, Null}
 use Rattle.sr_box.specs.Spans.{fits_kind}
 use Rattle.sr_box.specs.Points.{Rect, rect_fits, constrains_only}
 use Rattle.sr_union.specs.Grid.{is_among}
 use Rattle.sr_model.specs.Conditions.{Cond, Conds, Tests, And, Or, Not, none, more}
-use Rattle.sr_model.specs.Ends.{test_ends, ends, all_ends}
-use Rattle.sr_union.proofs.SpanCuts.{numbers_cut, texts_cut}
+use Rattle.sr_model.specs.Ends.{places_of, ends, all_ends}
+use Rattle.sr_union.proofs.SpanCuts.{numbers_cut, texts_cut, null_has_cut}
 use Rattle.sr_query.specs.Bound.{EndsWithTests}
 use Rattle.sr_lines.specs.Sound.{columns_in, all_columns_in, RectsConstrainNeeded}
 
@@ -31,7 +31,7 @@ mutual
   tested : (attrs c : ℕ) (d : Cond) (v : Cell) → columns_in attrs d ≡ true → is_among (ends c d) v ≡ true → has_column attrs c ≡ true
   tested attrs c (Tests column t) v all among = go (column == c) refl among
     where
-      go : (b : Bool) → (column == c) ≡ b → is_among (if b then test_ends t else []) v ≡ true → has_column attrs c ≡ true
+      go : (b : Bool) → (column == c) ≡ b → is_among (if b then places_of t else []) v ≡ true → has_column attrs c ≡ true
       go true is among = subst (λ z. has_column attrs z ≡ true) (eqb-true column c is) all
       go false is among = absurd cc
   tested attrs c (And ds) v all among = members_tested attrs c ds v all among
@@ -57,12 +57,16 @@ one_only attrs c [] condition (s ∷ r) all fits at_tests = absurd (grind arith)
 one_only attrs c (k ∷ columns) condition [] all fits at_tests = refl
 one_only attrs c (k ∷ columns) condition (Full ∷ r) all fits at_tests = one_only attrs (c + 1) columns condition r all (grind arith) at_tests.1
 one_only attrs c (k ∷ columns) condition (Nums lo hi ∷ r) all fits at_tests =
-    let p = and_parts (fits_kind k.kind k.lo k.hi (Nums lo hi)) (rect_fits columns r) fits in
-    let cut = numbers_cut k.kind k.lo k.hi lo hi p.0 in
+    let p = and_parts (fits_kind k.kind k.lo k.hi k.nullable (Nums lo hi)) (rect_fits columns r) fits in
+    let cut = numbers_cut k.kind k.lo k.hi k.nullable lo hi p.0 in
     both_true (tested attrs c condition cut.0 all (at_tests.0 cut.0 cut.1)) (one_only attrs (c + 1) columns condition r all p.1 at_tests.1)
 one_only attrs c (k ∷ columns) condition (Strs lo hi ∷ r) all fits at_tests =
-    let p = and_parts (fits_kind k.kind k.lo k.hi (Strs lo hi)) (rect_fits columns r) fits in
-    let cut = texts_cut k.kind k.lo k.hi lo hi p.0 in
+    let p = and_parts (fits_kind k.kind k.lo k.hi k.nullable (Strs lo hi)) (rect_fits columns r) fits in
+    let cut = texts_cut k.kind k.lo k.hi k.nullable lo hi p.0 in
+    both_true (tested attrs c condition cut.0 all (at_tests.0 cut.0 cut.1)) (one_only attrs (c + 1) columns condition r all p.1 at_tests.1)
+one_only attrs c (k ∷ columns) condition (Null ∷ r) all fits at_tests =
+    let p = and_parts (fits_kind k.kind k.lo k.hi k.nullable Null) (rect_fits columns r) fits in
+    let cut = null_has_cut k.kind k.lo k.hi k.nullable p.0 in
     both_true (tested attrs c condition cut.0 all (at_tests.0 cut.0 cut.1)) (one_only attrs (c + 1) columns condition r all p.1 at_tests.1)
 
 all_only : (attrs : ℕ) (columns : List Column) (condition : Cond) (rects : List Rect) → columns_in attrs condition ≡ true → list_all (rect_fits columns) rects ≡ true → AllByRecursion (EndsWithTests 0 columns condition) rects

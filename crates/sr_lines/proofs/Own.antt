@@ -284,7 +284,10 @@ known_table (table ∷ schema) zero all under = (and_parts (is_table table) (lis
 known_table (table ∷ schema) (suc t) all under = known_table schema t (and_parts (is_table table) (list_all is_table schema) all).1 (omega (arith, under))
 
 key_below : (t : Table) → is_table t ≡ true → t.key < length t.columns
-key_below t is = ltb-true t.key (length t.columns) (and_parts (nat_le (length t.columns) 12) (nat_lt t.key (length t.columns)) (and_parts (nat_le (length t.columns) 12 && nat_lt t.key (length t.columns)) (list_all (λ c. not (is_bad_domain c)) t.columns) is).0).1
+key_below t is =
+    let columns = (and_parts (nat_le (length t.columns) 12 && nat_lt t.key (length t.columns) && list_all (λ c. not (is_bad_domain c)) t.columns) _ is).0 in
+    let sizes = (and_parts (nat_le (length t.columns) 12 && nat_lt t.key (length t.columns)) (list_all (λ c. not (is_bad_domain c)) t.columns) columns).0 in
+    ltb-true t.key (length t.columns) (and_parts (nat_le (length t.columns) 12) (nat_lt t.key (length t.columns)) sizes).1
 
 below_own : (schema : List Table) (tables : List ℕ) (part t : ℕ) (os : List Output) → slice_index_or tables part 0 ≡ t → list_all (of_own schema tables) os ≡ true → list_all (is_below part (length (table_at schema t).columns)) os ≡ true
 below_own schema tables part t [] at all = refl

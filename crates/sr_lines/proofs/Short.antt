@@ -10,7 +10,7 @@ use Rattle.std.proofs.lemmas.List.Folds.{list_all-append}
 use Rattle.sr_cell.specs.declared.fault.Fault.{Fault}
 use Rattle.sr_cell.specs.declared.fault.Why.TheVariants.{WrongType, OutOfDomain}
 use Rattle.sr_cell.specs.declared.cell.Cell.{Cell}
-use Rattle.sr_cell.specs.declared.cell.Cell.TheVariants.{Num, Str}
+use Rattle.sr_cell.specs.declared.cell.Cell.TheVariants.{Num, Str, Null}
 use Rattle.sr_cell.specs.declared.table.Kind.{Kind}
 use Rattle.sr_cell.specs.declared.table.Table.{Table}
 use Rattle.sr_cell.specs.Cells.{cell_le, cell_eq}
@@ -21,9 +21,9 @@ use Rattle.sr_grammar.specs.declared.statement.Atom.{Atom}
 use Rattle.sr_grammar.specs.declared.statement.Atom.TheVariants as atoms
 use Rattle.sr_grammar.specs.Trees as tree
 use Rattle.sr_box.specs.Prefixes.{behind_byte, next_prefix}
-use Rattle.sr_model.specs.Conditions.{Cond, Conds, Test, Tests, And, Or, Not, none, more, Eq, Ne, Lt, Le, Gt, Ge, Between, OneOf, Prefix}
+use Rattle.sr_model.specs.Conditions.{Cond, Conds, Test, Tests, And, Or, Not, none, more, Eq, Ne, Lt, Le, Gt, Ge, Between, OneOf, Prefix, IsNull}
 use Rattle.sr_model.specs.Queries.{Output}
-use Rattle.sr_model.specs.Ends.{next_value, next_text, values_without, test_ends, ends, all_ends}
+use Rattle.sr_model.specs.Ends.{next_value, next_text, values_without, test_ends, places_of, ends, all_ends}
 use Rattle.sr_query.specs.Binding.{fault, ◌>>=◌, each, resolved, column_of, is_of, is_inside, value_of, compared, text_of, test_of, said, bound, bound_all, cond_of, conds_of, references, conjuncts, all_conjuncts, is_of_part, list_conds, part_condition, filter_bound, Bound, Bounds, Testing, Conjunction, Disjunction, Negation, no_more, one_more}
 use Rattle.sr_query.proofs.Steps.{split_ok}
 use Rattle.sr_lines.specs.Short.{is_short, compares_short, has_short_texts, have_short_texts, EndsAreShort}
@@ -39,10 +39,12 @@ is_most s n h = grind (arith, nat_tests)
 one_longer : (v : Cell) → is_short 120 v ≡ true → is_short 121 v ≡ true
 one_longer (Num n) h = refl
 one_longer (Str s) h = let few = at_most s 120 h in is_most s 121 (omega (arith, few))
+one_longer Null h = refl
 
 next_short : (v : Cell) → is_short 120 v ≡ true → is_short 121 (next_value v) ≡ true
 next_short (Num n) h = refl
 next_short (Str s) h = let few = at_most s 120 h in is_most (s ++ 0 ∷ []) 121 (omega (arith, few, length-append s (0 ∷ [])))
+next_short Null h = refl
 
 all_longer : (vs : List Cell) → list_all (is_short 120) vs ≡ true → list_all (is_short 121) vs ≡ true
 all_longer [] h = refl
@@ -108,13 +110,14 @@ test_short (OneOf vs) h =
 test_short (Prefix p) h =
     let few = at_most p 120 h in
     both_true (is_most p 121 (omega (arith, few))) (next_within (next_prefix p) (length p) (prefix_within p) few)
+test_short IsNull h = refl
 
 mutual
   one_ends : (c : ℕ) (d : Cond) → has_short_texts d ≡ true → list_all (is_short 121) (ends c d) ≡ true
   one_ends c (Tests column t) h = go (column == c) (test_short t h)
     where
-      go : (b : Bool) → list_all (is_short 121) (test_ends t) ≡ true → list_all (is_short 121) (if b then test_ends t else []) ≡ true
-      go true short = short
+      go : (b : Bool) → list_all (is_short 121) (test_ends t) ≡ true → list_all (is_short 121) (if b then places_of t else []) ≡ true
+      go true short = both_true refl short
       go false short = refl
   one_ends c (And cs) h = members_end c cs h
   one_ends c (Or cs) h = members_end c cs h
@@ -137,6 +140,7 @@ value a b e = cc
 inside_short : (v : Cell) → is_inside v ≡ true → is_short 120 v ≡ true
 inside_short (Num n) h = refl
 inside_short (Str s) h = h
+inside_short Null h = refl
 
 value_short : (kind : Kind) (l : Literal) (v : Cell) → value_of kind l ≡ Ok v → is_short 120 v ≡ true
 value_short kind l v e = go (not (is_of kind l.cell)) (is_inside l.cell) refl e
@@ -157,6 +161,7 @@ values_short kind (l ∷ ls) vs e =
 text_short : (v : Cell) → is_short 120 v ≡ true → nat_le (length (text_of v)) 120 ≡ true
 text_short (Num n) h = refl
 text_short (Str s) h = h
+text_short Null h = refl
 
 said_short : (place : ℕ) (o : Output) (holds : Bool) (t : Test) → compares_short t ≡ true → has_short_texts (cond_of (said place o (holds, t))) ≡ true
 said_short place o true t h = h
@@ -200,6 +205,8 @@ test_is_short kind (atoms.Prefix l) t e = one_value kind l (λ v. (true, Prefix 
 test_is_short kind (atoms.NotBetween low high) t e = two_values kind low high false t e
 test_is_short kind (atoms.NotOneOf all) t e = all_values kind all false t e
 test_is_short kind (atoms.NotPrefix l) t e = one_value kind l (λ v. (false, Prefix (text_of v))) t text_short e
+test_is_short kind atoms.IsNull t e = is_test (true, IsNull) t e refl
+test_is_short kind atoms.NotNull t e = is_test (false, IsNull) t e refl
 
 -- ---- bound conditions
 

@@ -1,5 +1,5 @@
 -- What the lines of a script say and do.
-use Rattle.std.specs.Prelude.{◌≡◌, ℕ, ◌+◌, ◌-◌, ◌==◌, ◌&&◌, ◌||◌, Bool, false, not, nat_le, List, [], ◌∷◌, ◌++◌, ◌⊎◌, length, nat_eq, codes, Option, Some, None, Result, Ok, Err, if◌then◌else◌}
+use Rattle.std.specs.Prelude.{◌≡◌, ℕ, ◌+◌, ◌-◌, ◌==◌, ◌&&◌, ◌||◌, Bool, true, false, not, nat_le, List, [], ◌∷◌, ◌++◌, ◌⊎◌, length, nat_eq, codes, Option, Some, None, Result, Ok, Err, if◌then◌else◌}
 use Rattle.std.specs.Char.{is_ascii_digit}
 use Rattle.std.specs.List.{list_all, starts_with}
 use Rattle.std.specs.Str.{is_utf8, bytes_eq}
@@ -7,7 +7,7 @@ use Rattle.std.specs.Str.Lossy.{utf8_valid_len}
 use Rattle.std.specs.Str.Parse.{digits_value}
 use Rattle.sr_cell.specs.declared.table.Table.{Table}
 use Rattle.sr_cell.specs.declared.fault.Fault.{Fault}
-use Rattle.sr_cell.specs.Faults.{table_fault}
+use Rattle.sr_cell.specs.Faults.{fault_with}
 use Rattle.sr_grammar.specs.Tokens.{Key, Tok, is, tokens_of}
 use Rattle.sr_grammar.specs.Trees.{Statement, Create}
 use Rattle.sr_grammar.specs.Says.{Says}
@@ -175,10 +175,10 @@ first_outside clients i stage (line ∷ lines) = outside_from i (λ next. first_
 
 -- the text of a CREATE is refused, or its table has a fault behind these tables
 abbrev pub RefusesTable : List Table → List ℕ → Fault → Type 0
-RefusesTable tables sql fault = Says sql (Err fault) ⊎ ((t : Table) × Says sql (Ok (Create t)) × (table_fault tables t ≡ Some fault))
+RefusesTable tables sql fault = Says sql (Err fault) ⊎ ((t : Table) × Says sql (Ok (Create t)) × (fault_with true tables t ≡ Some fault))
 
 abbrev pub AddsTable : List Table → List ℕ → Table → Type 0
-AddsTable tables sql t = Says sql (Ok (Create t)) × (table_fault tables t ≡ None)
+AddsTable tables sql t = Says sql (Ok (Create t)) × (fault_with true tables t ≡ None)
 
 -- what a line says of it, where Later says it of the lines behind, with the tables so far
 abbrev pub RefusedFrom : ℕ → List Table → (List Table → Type 0) → Result Line ℕ → ℕ → Fault → Type 0

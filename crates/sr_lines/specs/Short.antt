@@ -2,14 +2,15 @@
 use Rattle.std.specs.Prelude.{◌≡◌, ℕ, ◌&&◌, Bool, true, nat_le, length}
 use Rattle.std.specs.List.{list_all}
 use Rattle.sr_cell.specs.declared.cell.Cell.{Cell}
-use Rattle.sr_cell.specs.declared.cell.Cell.TheVariants.{Num, Str}
-use Rattle.sr_model.specs.Conditions.{Cond, Conds, Test, Tests, And, Or, Not, none, more, Eq, Ne, Lt, Le, Gt, Ge, Between, OneOf, Prefix}
+use Rattle.sr_cell.specs.declared.cell.Cell.TheVariants.{Num, Str, Null}
+use Rattle.sr_model.specs.Conditions.{Cond, Conds, Test, Tests, And, Or, Not, none, more, Eq, Ne, Lt, Le, Gt, Ge, Between, OneOf, Prefix, IsNull}
 use Rattle.sr_model.specs.Ends.{ends}
 
--- a number, or a text of at most so many bytes
+-- a number, a text of at most so many bytes, or Null
 abbrev pub is_short : ℕ → Cell → Bool
 is_short most (Num n) = true
 is_short most (Str s) = nat_le (length s) most
+is_short most Null = true
 
 -- what a table may hold is compared
 abbrev pub compares_short : Test → Bool
@@ -22,6 +23,7 @@ compares_short (Ge v) = is_short 120 v
 compares_short (Between a b) = is_short 120 a && is_short 120 b
 compares_short (OneOf vs) = list_all (is_short 120) vs
 compares_short (Prefix p) = nat_le (length p) 120
+compares_short IsNull = true
 
 abbrev mutual
   pub has_short_texts : Cond → Bool

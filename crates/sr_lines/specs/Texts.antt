@@ -2,7 +2,7 @@
 use Rattle.std.specs.Prelude.{ℕ, ℤ, pos, negsuc, Bool, ◌&&◌, ◌==◌, nat_le, List, [], ◌∷◌, ◌++◌, ◌+◌, ◌/◌, ◌%◌, flat_map, decimal, codes, if◌then◌else◌}
 use Rattle.std.specs.List.{list_all}
 use Rattle.sr_cell.specs.declared.cell.Cell.{Cell}
-use Rattle.sr_cell.specs.declared.cell.Cell.TheVariants.{Num, Str}
+use Rattle.sr_cell.specs.declared.cell.Cell.TheVariants.{Num, Str, Null}
 
 -- the texts, with a separator between two
 abbrev pub joined : List ℕ → List (List ℕ) → List ℕ
@@ -46,3 +46,4 @@ bytes_text s = if list_all is_printable s then quoted s else hexadecimal s
 abbrev pub cell_text : Cell → List ℕ
 cell_text (Num n) = number_text n
 cell_text (Str s) = bytes_text s
+cell_text Null = codes "null"

@@ -1,6 +1,6 @@
 //! Laws of the definitions: functions that do nothing, and whose contracts are worked values.
 ghost use Rattle.std.specs.Prelude.{◌≡◌, [], ◌∷◌, pos, negsuc, codes, decimal, ◌++◌, Ok, Err};
-ghost use Rattle.sr_cell.specs.declared.cell.Cell.TheVariants.{Num, Str};
+ghost use Rattle.sr_cell.specs.declared.cell.Cell.TheVariants.{Num, Str, Null};
 ghost use Rattle.sr_lines.specs.Script.{EventLine, Evict, PushTo, QuerySql, Silent, event_line, line_of};
 ghost use Rattle.sr_lines.specs.Parts.{EventsNameClients, FaultsLeaveEnds};
 ghost use Rattle.sr_lines.specs.Texts.{cell_text};
@@ -9,7 +9,7 @@ ghost use Rattle.sr_lines.specs.Own.{BoundNeedOwn};
 ghost use Rattle.sr_lines.specs.Short.{EndsAreShort};
 ghost use Rattle.sr_lines.specs.Sound.{BoundAreSound, RectsConstrainNeeded};
 
-/// Numbers are decimal; texts stand in quotes, which are doubled inside, or in hexadecimal where a byte is not printable.
+/// Numbers are decimal; texts stand in quotes, which are doubled inside, or in hexadecimal where a byte is not printable. Null has no quotes.
 pub fn cells_are_printed()
     ensures number { cell_text (Num (pos 120)) ≡ decimal 120 }
     ensures below_zero { cell_text (Num (negsuc 4)) ≡ codes "-" ++ decimal 5 }
@@ -18,6 +18,8 @@ pub fn cells_are_printed()
     ensures bytes { cell_text (Str (97 ∷ 10 ∷ 127 ∷ [])) ≡ codes "x'610a7f'" }
     ensures last_printable { cell_text (Str (126 ∷ [])) ≡ codes "'~'" }
     ensures first_not_printable { cell_text (Str (127 ∷ [])) ≡ codes "x'7f'" }
+    ensures null { cell_text Null ≡ codes "null" }
+    ensures not_null { cell_text (Str (110 ∷ 117 ∷ 108 ∷ 108 ∷ [])) ≡ codes "'null'" }
 {}
 
 /// An event that is outside the grammar has its fault where the first part begins that does not fit.

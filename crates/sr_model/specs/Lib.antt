@@ -1,6 +1,7 @@
 pub mod Conditions
 pub mod Ends
 pub mod Width
+pub mod Sides
 pub mod Queries
 pub mod SortedRows
 pub mod Statements

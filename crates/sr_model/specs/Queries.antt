@@ -1,9 +1,9 @@
 -- Queries, and their answers on tables.
 use Rattle.std.specs.Prelude.{ℕ, Bool, true, ◌&&◌, List, [], ◌∷◌, map, filter, flat_map, slice_index_or}
 use Rattle.std.specs.List.{list_all}
-use Rattle.sr_cell.specs.Cells.{Row, cell_at, cell_eq}
+use Rattle.sr_cell.specs.Cells.{Row, cell_at}
 use Rattle.sr_box.specs.Points.{Points}
-use Rattle.sr_model.specs.Conditions.{Cond, is_true}
+use Rattle.sr_model.specs.Conditions.{Cond, Eq, passes, is_true}
 
 -- What a query asks of one table: the condition on it, and the columns that it needs.
 pub record Part : Type 0 where
@@ -48,8 +48,9 @@ all_meet [] rows = true
 all_meet (part ∷ parts) [] = true
 all_meet (part ∷ parts) (row ∷ rows) = points_of part row && all_meet parts rows
 
+-- each join's equation is true; Null is equal to no key
 abbrev pub joins_hold : List Join → List Row → Bool
-joins_hold joins rows = list_all (λ j. cell_eq (cell_at (row_at rows j.left) j.column) (cell_at (row_at rows j.right) j.key)) joins
+joins_hold joins rows = list_all (λ j. passes (Eq (cell_at (row_at rows j.right) j.key)) (cell_at (row_at rows j.left) j.column)) joins
 
 abbrev pub output_of : List Output → List Row → Row
 output_of outputs rows = map (λ o. cell_at (row_at rows o.part) o.column) outputs

@@ -1,13 +1,13 @@
 -- Statements that change tables, and their refusals.
-use Rattle.std.specs.Prelude.{ℕ, ℤ, pos, Bool, true, not, List, [], ◌∷◌, length, map, filter, Option, Some, None, Result, Ok, Err, ◌+◌, nat_lt, int_le, ◌&&◌, if◌then◌else◌, slice_set, slice_index_or}
+use Rattle.std.specs.Prelude.{ℕ, ℤ, pos, Bool, true, false, not, List, [], ◌∷◌, length, map, filter, Option, Some, None, Result, Ok, Err, ◌+◌, nat_lt, int_le, ◌&&◌, if◌then◌else◌, slice_set, slice_index_or}
 use Rattle.sr_cell.specs.declared.cell.Cell.{Cell}
-use Rattle.sr_cell.specs.declared.cell.Cell.TheVariants.{Num, Str}
+use Rattle.sr_cell.specs.declared.cell.Cell.TheVariants.{Num, Str, Null}
 use Rattle.sr_cell.specs.declared.table.Kind.{Kind}
 use Rattle.sr_cell.specs.declared.table.Kind.TheVariants.{Num as Numbers, Str as Texts}
 use Rattle.sr_cell.specs.declared.table.Column.{Column}
 use Rattle.sr_cell.specs.declared.table.Table.{Table}
 use Rattle.sr_cell.specs.declared.fault.Fault.{Fault}
-use Rattle.sr_cell.specs.declared.fault.Why.TheVariants.{DuplicateKey, DomainCell, LongCell, TableFull, TooManyChanges}
+use Rattle.sr_cell.specs.declared.fault.Why.TheVariants.{DuplicateKey, NullCell, DomainCell, LongCell, TableFull, TooManyChanges}
 use Rattle.sr_cell.specs.Cells.{Row, cell_at}
 use Rattle.sr_cell.specs.Columns.{table_at}
 use Rattle.sr_model.specs.Conditions.{Cond, is_true}
@@ -30,11 +30,12 @@ pub data Write : Type 0 where
   Delete : (table : ℕ) → (condition : Option Cond) → Write
 
 -- why a value can't stand in column number c; of a text only its length is judged
-abbrev pub cell_fault : Kind → ℤ → ℤ → ℕ → Cell → Option Fault
-cell_fault Numbers low high c (Num n) = if int_le low n && int_le n high then None else Some (record { why = DomainCell; at = c })
-cell_fault Numbers low high c (Str s) = Some (record { why = DomainCell; at = c })
-cell_fault Texts low high c (Num n) = Some (record { why = DomainCell; at = c })
-cell_fault Texts low high c (Str s) = if nat_lt 120 (length s) then Some (record { why = LongCell; at = c }) else None
+abbrev pub cell_fault : Kind → ℤ → ℤ → Bool → ℕ → Cell → Option Fault
+cell_fault k low high nullable c Null = if nullable then None else Some (record { why = NullCell; at = c })
+cell_fault Numbers low high nullable c (Num n) = if int_le low n && int_le n high then None else Some (record { why = DomainCell; at = c })
+cell_fault Numbers low high nullable c (Str s) = Some (record { why = DomainCell; at = c })
+cell_fault Texts low high nullable c (Num n) = Some (record { why = DomainCell; at = c })
+cell_fault Texts low high nullable c (Str s) = if nat_lt 120 (length s) then Some (record { why = LongCell; at = c }) else None
 
 abbrev pub first_fault : Option Fault → Option Fault → Option Fault
 first_fault (Some fault) other = Some fault
@@ -44,7 +45,7 @@ first_fault None other = other
 abbrev pub bad_cell_from : ℕ → List Column → Row → Option Fault
 bad_cell_from c [] row = None
 bad_cell_from c (column ∷ columns) [] = None
-bad_cell_from c (column ∷ columns) (v ∷ row) = first_fault (cell_fault column.kind column.lo column.hi c v) (bad_cell_from (c + 1) columns row)
+bad_cell_from c (column ∷ columns) (v ∷ row) = first_fault (cell_fault column.kind column.lo column.hi column.nullable c v) (bad_cell_from (c + 1) columns row)
 
 -- row number i of a statement has a key that is there already
 abbrev pub key_fault : Table → ℕ → List Row → Row → Option Fault
@@ -80,10 +81,10 @@ meets None row = true
 meets (Some c) row = is_true (cell_at row) c
 
 abbrev pub column_of : Table → ℕ → Column
-column_of table c = slice_index_or table.columns c (record { name = []; kind = Texts; lo = pos 0; hi = pos 0 })
+column_of table c = slice_index_or table.columns c (record { name = []; kind = Texts; lo = pos 0; hi = pos 0; nullable = false })
 
 abbrev pub place_fault : Table → Place → Option Fault
-place_fault table p = let column = column_of table p.column in cell_fault column.kind column.lo column.hi p.column p.value
+place_fault table p = let column = column_of table p.column in cell_fault column.kind column.lo column.hi column.nullable p.column p.value
 
 -- the first new value that can't stand in its column
 abbrev pub places_fault : Table → List Place → Option Fault

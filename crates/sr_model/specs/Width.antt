@@ -1,6 +1,6 @@
 -- The width of a condition: how many rects it may take.
 use Rattle.std.specs.Prelude.{ℕ, Bool, true, false, not, ◌+◌, ◌*◌, min, length}
-use Rattle.sr_model.specs.Conditions.{Cond, Conds, Test, Tests, And, Or, Not, none, more, Eq, Ne, Lt, Le, Gt, Ge, Between, OneOf, Prefix}
+use Rattle.sr_model.specs.Conditions.{Cond, Conds, Test, Tests, And, Or, Not, none, more, Eq, Ne, Lt, Le, Gt, Ge, Between, OneOf, Prefix, IsNull}
 
 abbrev pub capped : ℕ → ℕ
 capped n = min n 65536
@@ -16,6 +16,7 @@ test_width true (Ge v) = 1
 test_width true (Between a b) = 1
 test_width true (OneOf vs) = length vs
 test_width true (Prefix p) = 1
+test_width true IsNull = 1
 test_width false (Eq v) = 2
 test_width false (Ne v) = 1
 test_width false (Lt v) = 1
@@ -25,6 +26,7 @@ test_width false (Ge v) = 1
 test_width false (Between a b) = 2
 test_width false (OneOf vs) = length vs + 1
 test_width false (Prefix p) = 2
+test_width false IsNull = 1
 
 -- of a condition, or of its contrary: OR adds and AND multiplies, and of the contrary each does what the other does
 abbrev mutual

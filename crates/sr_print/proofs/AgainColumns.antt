@@ -6,18 +6,18 @@ use Rattle.sr_cell.specs.declared.table.Kind.{Kind}
 use Rattle.sr_cell.specs.declared.table.Kind.TheVariants.{Num, Str}
 use Rattle.sr_cell.specs.declared.table.Column.{Column}
 use Rattle.sr_grammar.specs.declared.statement.Check.{Check}
-use Rattle.sr_grammar.specs.declared.statement.ColumnRule.TheVariants.{PrimaryKey, Check as Checks}
+use Rattle.sr_grammar.specs.declared.statement.ColumnRule.TheVariants.{PrimaryKey, Null, Check as Checks}
 use Rattle.sr_grammar.specs.declared.statement.Definition.{Definition}
 use Rattle.sr_grammar.specs.Tokens.{Number, Tok}
 use Rattle.sr_grammar.specs.Words.{number_of, minus}
 use Rattle.sr_grammar.specs.Rules.{One}
 use Rattle.sr_grammar.specs.Columns.{IsNumber, IsKind, Left, all_left, IsCheck, IsRules, IsColumn}
 use Rattle.sr_grammar.specs.Trees.{low_default, high_default}
-use Rattle.sr_grammar.specs.Printed.{token, key, mark, name, number, parens, kind_word, key_rule, check, check_rule, column}
+use Rattle.sr_grammar.specs.Printed.{token, key, mark, name, number, parens, kind_word, key_rule, null_rule, check, check_rule, column}
 use Rattle.sr_print.specs.Writable.{is_name}
 use Rattle.sr_print.proofs.AgainTokens.{Writable, both_true, joined, cut, at_end, in_parens, writable_parens}
 use Rattle.sr_print.proofs.AgainWords.{IsSmall, name_again, name_one, writable_name, decimal_one, writable_number, minus_more}
-use Rattle.sr_print.proofs.AgainDomains.{through, small_within, IsDomain, key_rules, domain_rules, defines, IsSound}
+use Rattle.sr_print.proofs.AgainDomains.{through, small_within, IsDomain, key_rules, null_rules, domain_rules, defines, IsSound}
 
 number_spelled : (z : ℤ) → IsSmall z → IsNumber z (number z 0)
 number_spelled (pos n) h = inr (at_end (One number_of) _ pos n _ refl (decimal_one n 0 h))
@@ -57,12 +57,12 @@ writable_range text low high n h k =
 
 no_rules : (count : ℕ) (left : Left) → IsRules count left [] []
 no_rules zero left = (refl, refl)
-no_rules (suc count) left = inr (inr (inr (refl, refl)))
+no_rules (suc count) left = inr (inr (inr (inr (refl, refl))))
 
 -- the CHECK of a column, or nothing
 check_spelled : (count : ℕ) (left : Left) → IsTrue left.check → (kind : Kind) (text : List ℕ) (low high : ℤ) → IsTrue (is_name text) → IsDomain kind low high
     → IsRules (suc count) left (domain_rules kind text low high) (check_rule kind text low high) × Writable (check_rule kind text low high)
-check_spelled count left may Str text low high n d = (inr (inr (inr (refl, refl))), refl)
+check_spelled count left may Str text low high n d = (inr (inr (inr (inr (refl, refl)))), refl)
 check_spelled count left may Num text low high n d = go (int_le low low_default && int_le high_default high)
   where
     ends : IsSmall low × IsSmall high
@@ -72,32 +72,45 @@ check_spelled count left may Num text low high n d = go (int_le low low_default 
         (small_within low s.0 (through low high high_default t.0 t.1), small_within high (through low_default low high s.0 t.0) t.1)
 
     go : (test : Bool) → IsRules (suc count) left (if test then [] else Checks (record { name = text; low = low; high = high }) ∷ []) (if test then [] else check text low high) × Writable (if test then [] else check text low high)
-    go true = (inr (inr (inr (refl, refl))), refl)
+    go true = (inr (inr (inr (inr (refl, refl)))), refl)
     go false =
         let rule : Check = record { name = text; low = low; high = high } in
         let later : Left = record left { check = false } in
         let tokens = parens (range text low high) in
         let more = at_end (IsRules count later) _ (λ more. Checks rule ∷ more) [] _ refl (no_rules count later) in
         let shut = in_parens IsCheck rule (range text low high) (range_spelled text low high ends.0 ends.1) in (
-          inr (inr (inl (may, (0, key (codes "CHECK") ∷ [], tokens, refl, (key (codes "CHECK"), refl, refl), (rule, tokens, [], sym (append-nil tokens), shut, more))))),
+          inr (inr (inr (inl (may, (0, key (codes "CHECK") ∷ [], tokens, refl, (key (codes "CHECK"), refl, refl), (rule, tokens, [], sym (append-nil tokens), shut, more)))))),
           writable_parens (range text low high) (writable_range text low high n ends.0 ends.1),
         )
 
-rules_spelled : (is_key : Bool) (kind : Kind) (text : List ℕ) (low high : ℤ) → IsTrue (is_name text) → IsDomain kind low high
-    → IsRules 3 all_left (key_rules is_key ++ domain_rules kind text low high) (key_rule is_key ++ check_rule kind text low high) × Writable (key_rule is_key ++ check_rule kind text low high)
-rules_spelled false kind text low high n d = check_spelled 2 all_left refl kind text low high n d
-rules_spelled true kind text low high n d =
+-- NULL, or not, and the CHECK
+null_spelled : (count : ℕ) (left : Left) → IsTrue left.null → IsTrue left.check → (nullable : Bool) (kind : Kind) (text : List ℕ) (low high : ℤ) → IsTrue (is_name text) → IsDomain kind low high
+    → IsRules (suc (suc count)) left (null_rules nullable ++ domain_rules kind text low high) (null_rule nullable ++ check_rule kind text low high) × Writable (null_rule nullable ++ check_rule kind text low high)
+null_spelled count left may_null may false kind text low high n d = check_spelled (suc count) left may kind text low high n d
+null_spelled count left may_null may true kind text low high n d =
+    let later : Left = record left { null = false } in
+    let c = check_spelled count later may kind text low high n d in (
+      inr (inr (inl (may_null, (0, key (codes "NULL") ∷ [], check_rule kind text low high, refl, (key (codes "NULL"), refl, refl), at_end (IsRules (suc count) later) _ (λ more. Null ∷ more) (domain_rules kind text low high) _ refl c.0)))),
+      c.1,
+    )
+
+rules_spelled : (is_key nullable : Bool) (kind : Kind) (text : List ℕ) (low high : ℤ) → IsTrue (is_name text) → IsDomain kind low high
+    → IsRules 3 all_left (key_rules is_key ++ (null_rules nullable ++ domain_rules kind text low high)) (key_rule is_key ++ (null_rule nullable ++ check_rule kind text low high))
+    × Writable (key_rule is_key ++ (null_rule nullable ++ check_rule kind text low high))
+rules_spelled false nullable kind text low high n d = null_spelled 1 all_left refl refl nullable kind text low high n d
+rules_spelled true nullable kind text low high n d =
     let left : Left = record all_left { primary = false } in
-    let c = check_spelled 1 left refl kind text low high n d in (
+    let tokens = null_rule nullable ++ check_rule kind text low high in
+    let c = null_spelled 0 left refl refl nullable kind text low high n d in (
       inl (
         refl,
         (
           0,
           key (codes "PRIMARY") ∷ [],
-          key (codes "KEY") ∷ check_rule kind text low high,
+          key (codes "KEY") ∷ tokens,
           refl,
           (key (codes "PRIMARY"), refl, refl),
-          (0, key (codes "KEY") ∷ [], check_rule kind text low high, refl, (key (codes "KEY"), refl, refl), at_end (IsRules 2 left) _ (λ more. PrimaryKey ∷ more) (domain_rules kind text low high) _ refl c.0),
+          (0, key (codes "KEY") ∷ [], tokens, refl, (key (codes "KEY"), refl, refl), at_end (IsRules 2 left) _ (λ more. PrimaryKey ∷ more) (null_rules nullable ++ domain_rules kind text low high) _ refl c.0),
         ),
       ),
       c.1,
@@ -109,10 +122,10 @@ kind_spelled Str = (inr (inr (0, key (codes "TEXT") ∷ [], [], refl, (key (code
 
 pub column_spelled : (is_key : Bool) (c : Column) → IsSound c → IsColumn (defines is_key c) (column is_key c) × Writable (column is_key c)
 column_spelled is_key c s =
-    let r = rules_spelled is_key c.kind c.name c.lo c.hi s.named s.domain in
+    let r = rules_spelled is_key c.nullable c.kind c.name c.lo c.hi s.named s.domain in
     let k = kind_spelled c.kind in
-    let rules = key_rules is_key ++ domain_rules c.kind c.name c.lo c.hi in
-    let tokens = key_rule is_key ++ check_rule c.kind c.name c.lo c.hi in (
+    let rules = key_rules is_key ++ (null_rules c.nullable ++ domain_rules c.kind c.name c.lo c.hi) in
+    let tokens = key_rule is_key ++ (null_rule c.nullable ++ check_rule c.kind c.name c.lo c.hi) in (
       (
         record { text = c.name; place = 0 },
         name c.name 0 ∷ [],

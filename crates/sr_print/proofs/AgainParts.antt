@@ -5,11 +5,11 @@ use Rattle.std.proofs.lemmas.Option.{same_Some}
 use Rattle.sr_grammar.specs.Tokens.{Key, Mark, Tok}
 use Rattle.sr_grammar.specs.Words.{name_of, reference_of}
 use Rattle.sr_grammar.specs.Rules.{One, Nothing, ◌>>=◌ as ◌▸◌}
-use Rattle.sr_grammar.specs.Conditions.{KEY, MARK, ListOf, InParens, IsLiteral, IsReference, IsCond}
+use Rattle.sr_grammar.specs.Conditions.{KEY, MARK, ListOf, InParens, IsValue, IsReference, IsCond}
 use Rattle.sr_grammar.specs.Statements.{Where, IsWhere, filter_of, IsListed, IsJoin, IsColumnName, IsColumnNames, IsRow, IsSet}
 use Rattle.sr_grammar.specs.Printed.{token, key, mark, name, commas, parens, literal, reference, condition, where_tokens, listed, join, column_names, row, set}
 use Rattle.sr_print.proofs.AgainTokens.{Writable, joined, cut, Printed, Again, at_end, in_list, parens_again}
-use Rattle.sr_print.proofs.AgainWords.{name_again, name_one, writable_name, literal_again, reference_again}
+use Rattle.sr_print.proofs.AgainWords.{name_again, name_one, writable_name, value_again, reference_again}
 use Rattle.sr_print.proofs.AgainConditions.{cond_again}
 
 -- a WHERE, which is printed with another place where the statement does not hold it
@@ -141,7 +141,7 @@ row_again r x w h =
     let s = cut x h.1 h.2 w h.3 in
     let all = h.5 in
     let t = cut h.2 all.1 all.2 s.1 all.3 in
-    let l = in_list IsLiteral literal literal_again all.0 all.1 t.0 all.4 in
+    let l = in_list IsValue literal value_again all.0 all.1 t.0 all.4 in
     subst (Printed IsRow row) (sym all.5.5.0) (
       (
         h.0,
@@ -162,7 +162,7 @@ set_again a x w h =
     let value = is.5 in
     let u = cut is.2 value.1 value.2 t.1 value.3 in
     let n = column_name_again h.0 h.1 s.0 h.4 in
-    let v = literal_again value.0 value.1 u.0 value.4 in
+    let v = value_again value.0 value.1 u.0 value.4 in
     subst (Printed IsSet set) (sym value.5.0) (
       (
         h.0,
@@ -170,7 +170,7 @@ set_again a x w h =
         mark (codes "=") ∷ literal value.0,
         refl,
         n.0,
-        (0, mark (codes "=") ∷ [], literal value.0, refl, (mark (codes "="), refl, refl), at_end IsLiteral _ (λ value. record { name = h.0; value = value }) value.0 _ refl v.0),
+        (0, mark (codes "=") ∷ [], literal value.0, refl, (mark (codes "="), refl, refl), at_end IsValue _ (λ value. record { name = h.0; value = value }) value.0 _ refl v.0),
       ),
       joined (reference h.0) (mark (codes "=") ∷ literal value.0) n.1 v.1,
     )

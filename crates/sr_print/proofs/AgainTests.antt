@@ -4,12 +4,12 @@ use Rattle.std.specs.Prelude.{codes}
 use Rattle.sr_grammar.specs.declared.statement.Name.{Name}
 use Rattle.sr_grammar.specs.declared.statement.Literal.{Literal}
 use Rattle.sr_grammar.specs.declared.statement.Atom.{Atom}
-use Rattle.sr_grammar.specs.declared.statement.Atom.TheVariants.{Cmp, Between, OneOf, Prefix, NotBetween, NotOneOf, NotPrefix}
+use Rattle.sr_grammar.specs.declared.statement.Atom.TheVariants.{Cmp, Between, OneOf, Prefix, NotBetween, NotOneOf, NotPrefix, IsNull, NotNull}
 use Rattle.sr_grammar.specs.Tokens.{Tok}
 use Rattle.sr_grammar.specs.Words.{prefix_of, op_of}
 use Rattle.sr_grammar.specs.Trees.{Cond, Test}
 use Rattle.sr_grammar.specs.Rules.{Rule, One, Nothing, ◌>>=◌ as ◌▸◌, ◌or◌}
-use Rattle.sr_grammar.specs.Conditions.{MARK, ListOf, InParens, IsLiteral, IsBetween, IsIn, IsLike, IsAtom, IsTest}
+use Rattle.sr_grammar.specs.Conditions.{MARK, ListOf, InParens, IsLiteral, IsBetween, IsIn, IsLike, IsNullTest, IsAtom, IsTest}
 use Rattle.sr_grammar.specs.Printed.{key, mark, commas, parens, literal, prefix, reference, sign, between, one_of, like, atom}
 use Rattle.sr_print.proofs.AgainTokens.{Writable, joined, cut, Printed, Again, at_end, in_list, parens_again}
 use Rattle.sr_print.proofs.AgainWords.{literal_again, prefix_again, sign_again, reference_again}
@@ -88,6 +88,40 @@ denied_again a x w h = elim h [
   ]
 ]
 
+-- IS NULL or IS NOT NULL
+null_again : Again IsNullTest atom
+null_again a x w h = elim h.5 [
+  | inl k ↦ (let n = k.5 in subst (Printed IsNullTest atom) (sym n.5.0) (
+    (
+      0,
+      key (codes "IS") ∷ [],
+      key (codes "NOT") ∷ key (codes "NULL") ∷ [],
+      refl,
+      (key (codes "IS"), refl, refl),
+      inl (
+        0,
+        key (codes "NOT") ∷ [],
+        key (codes "NULL") ∷ [],
+        refl,
+        (key (codes "NOT"), refl, refl),
+        (0, key (codes "NULL") ∷ [], [], refl, (key (codes "NULL"), refl, refl), (refl, refl)),
+      ),
+    ),
+    refl,
+  ))
+  | inr k ↦ subst (Printed IsNullTest atom) (sym k.5.0) (
+    (
+      0,
+      key (codes "IS") ∷ [],
+      key (codes "NULL") ∷ [],
+      refl,
+      (key (codes "IS"), refl, refl),
+      inr (0, key (codes "NULL") ∷ [], [], refl, (key (codes "NULL"), refl, refl), (refl, refl)),
+    ),
+    refl,
+  )
+]
+
 pub atom_again : Again IsAtom atom
 atom_again a x w h = elim h [
   | inl k ↦ denied_again a k.2 (cut x k.1 k.2 w k.3).1 k.5
@@ -97,7 +131,10 @@ atom_again a x w h = elim h [
       | inl i ↦ (let r = in_again OneOf a x w i in subst (Printed IsAtom atom) (sym r.1) (inr (inr (inl r.2)), r.3))
       | inr i ↦ elim i [
         | inl l ↦ (let r = like_again Prefix a x w l in subst (Printed IsAtom atom) (sym r.1) (inr (inr (inr (inl r.2))), r.3))
-        | inr c ↦ compared c
+        | inr j ↦ elim j [
+          | inl n ↦ (let r = null_again a x w n in (inr (inr (inr (inr (inl r.0)))), r.1))
+          | inr c ↦ compared c
+        ]
       ]
     ]
   ]
@@ -111,7 +148,7 @@ atom_again a x w h = elim h [
         let op = sign_again c.0 c.1 s.0 c.4 in
         let value = literal_again v.0 v.1 t.0 v.4 in
         subst (Printed IsAtom atom) (sym v.5.0) (
-          inr (inr (inr (inr (c.0, mark (sign c.0) ∷ [], literal v.0, refl, op.0, at_end IsLiteral _ (λ value. Cmp c.0 value) v.0 _ refl value.0)))),
+          inr (inr (inr (inr (inr (c.0, mark (sign c.0) ∷ [], literal v.0, refl, op.0, at_end IsLiteral _ (λ value. Cmp c.0 value) v.0 _ refl value.0))))),
           joined (mark (sign c.0) ∷ []) (literal v.0) op.1 value.1,
         )
 

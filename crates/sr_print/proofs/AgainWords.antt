@@ -15,7 +15,7 @@ use Rattle.sr_grammar.specs.declared.statement.Op.TheVariants.{Eq, Ne, Lt, Le, G
 use Rattle.sr_grammar.specs.Tokens.{Kind, Key, Named, Number, Quoted, Mark, Bad, Tok, is_kind}
 use Rattle.sr_grammar.specs.Words.{Word, name_of, number_of, minus, plain_of, is_prefix, prefix_of, op_of, reference_of}
 use Rattle.sr_grammar.specs.Rules.{One, ◌>>=◌ as ◌▸◌}
-use Rattle.sr_grammar.specs.Conditions.{MARK, MaybeOf, IsLiteral, IsReference}
+use Rattle.sr_grammar.specs.Conditions.{MARK, MaybeOf, IsLiteral, IsValue, IsReference}
 use Rattle.sr_grammar.specs.Printed.{token, mark, name, number, literal, prefix, reference, sign}
 use Rattle.sr_print.specs.Writable.{is_name, is_digits, is_writable_as, are_writable}
 use Rattle.sr_print.proofs.AgainTokens.{Writable, both_true, true_both, cut, only, Printed, Again, at_end}
@@ -133,6 +133,15 @@ literal_again l x w h = elim h [
     plain Quoted text place w e = subst (Printed IsLiteral literal) (same_Some _ l e) (inr (token Quoted text place, refl, refl), refl)
     plain Mark text place w e = absurd cc
     plain Bad text place w e = absurd cc
+
+pub value_again : Again IsValue literal
+value_again l x w h = elim h [
+  | inl k ↦ subst (Printed IsValue literal) (sym k.5.0) (
+    inl (k.0, token Key (codes "NULL") k.0 ∷ [], [], refl, (token Key (codes "NULL") k.0, refl, refl), (refl, refl)),
+    refl,
+  )
+  | inr k ↦ (let r = literal_again l x w k in (inr r.0, r.1))
+]
 
 -- ---- prefixes
 

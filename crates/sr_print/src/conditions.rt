@@ -126,6 +126,15 @@ fn atom(printer: &mut Printer, what: &Atom) -> Result<(), NoMemory>
             printer.key("NOT")?;
             like(printer, text)
         }
+        Atom::IsNull => {
+            printer.key("IS")?;
+            printer.key("NULL")
+        }
+        Atom::NotNull => {
+            printer.key("IS")?;
+            printer.key("NOT")?;
+            printer.key("NULL")
+        }
     }
 }
 
@@ -165,5 +174,6 @@ fn like(printer: &mut Printer, text: &Literal) -> Result<(), NoMemory>
     match &text.cell {
         Cell::Num(number) => printer.number(*number),
         Cell::Str(start) => printer.prefix(start.as_str()),
+        Cell::Null => printer.key("NULL"),
     }
 }

@@ -49,6 +49,9 @@ fn column(printer: &mut Printer, is_key: bool, column: &Column) -> Result<(), No
         printer.key("PRIMARY")?;
         printer.key("KEY")?;
     }
+    if column.nullable {
+        printer.key("NULL")?;
+    }
     if has_check(column) {
         check(printer, column)?;
     }

@@ -39,6 +39,7 @@ impl Print for Literal {
         match &self.cell {
             Cell::Num(number) => printer.number(*number),
             Cell::Str(text) => printer.quoted(text.as_str()),
+            Cell::Null => printer.key("NULL"),
         }
     }
 }

@@ -2,7 +2,7 @@
 use Rattle.std.specs.Prelude.{ℕ, ℤ, pos, int_le, ◌+◌, ◌^◌, ◌==◌, ◌&&◌, not, Bool, true, false, nat_lt, nat_le, List, [], ◌∷◌, ◌++◌, map, filter, flat_map, length, take, bytes_eq, slice_index_or, Option, Some, None, Result, Ok, Err, if◌then◌else◌}
 use Rattle.std.specs.List.{list_any}
 use Rattle.sr_cell.specs.declared.cell.Cell.{Cell}
-use Rattle.sr_cell.specs.declared.cell.Cell.TheVariants.{Num, Str}
+use Rattle.sr_cell.specs.declared.cell.Cell.TheVariants.{Num, Str, Null}
 use Rattle.sr_cell.specs.declared.table.Kind.{Kind}
 use Rattle.sr_cell.specs.declared.table.Kind.TheVariants as kinds
 use Rattle.sr_cell.specs.declared.table.Column.{Column}
@@ -23,7 +23,7 @@ use Rattle.sr_grammar.specs.declared.statement.JoinOn.{JoinOn}
 use Rattle.sr_grammar.specs.Words.{Word}
 use Rattle.sr_grammar.specs.Trees as tree
 use Rattle.sr_grammar.specs.Trees.{low_default, high_default}
-use Rattle.sr_model.specs.Conditions.{Cond, Conds, Test, Tests, And, Or, Not, none, more, Eq, Ne, Lt, Le, Gt, Ge, Between, OneOf, Prefix}
+use Rattle.sr_model.specs.Conditions.{Cond, Conds, Test, Tests, And, Or, Not, none, more, Eq, Ne, Lt, Le, Gt, Ge, Between, OneOf, Prefix, IsNull}
 use Rattle.sr_model.specs.Width.{width}
 use Rattle.sr_model.specs.Queries.{Part, Join, Output, Query}
 
@@ -108,7 +108,7 @@ abbrev pub table_of_part : List Table → List ℕ → ℕ → Table
 table_of_part schema tables part = table_at schema (slice_index_or tables part 0)
 
 abbrev pub column_at : Table → ℕ → Column
-column_at t c = slice_index_or t.columns c (record { name = []; kind = kinds.Str; lo = pos 0; hi = pos 0 })
+column_at t c = slice_index_or t.columns c (record { name = []; kind = kinds.Str; lo = pos 0; hi = pos 0; nullable = false })
 
 abbrev pub column_of : List Table → List ℕ → Output → Column
 column_of schema tables o = column_at (table_of_part schema tables o.part) o.column
@@ -171,12 +171,15 @@ mutual
 abbrev pub is_default : ℤ → Bool
 is_default n = int_le low_default n && int_le n high_default
 
--- a number inside the default domain, or a text of at most 120 bytes
+-- a number inside the default domain, or a text of at most 120 bytes; a column is compared with no Null
 abbrev pub is_inside : Cell → Bool
 is_inside (Num n) = is_default n
 is_inside (Str s) = nat_le (length s) 120
+is_inside Null = false
 
+-- Null is of each kind
 abbrev pub is_of : Kind → Cell → Bool
+is_of kind Null = true
 is_of kinds.Num (Num n) = true
 is_of kinds.Num (Str s) = false
 is_of kinds.Str (Num n) = false
@@ -196,6 +199,7 @@ compared ops.Ge v = Ge v
 abbrev pub text_of : Cell → List ℕ
 text_of (Num n) = []
 text_of (Str s) = s
+text_of Null = []
 
 -- whether the test holds, or its contrary, and the test
 abbrev pub test_of : Kind → Atom → Result (Bool × Test) Fault
@@ -206,6 +210,8 @@ test_of kind (atoms.Prefix text) = value_of kind text >>= λ v. Ok (true, Prefix
 test_of kind (atoms.NotBetween low high) = value_of kind low >>= λ a. value_of kind high >>= λ b. Ok (false, Between a b)
 test_of kind (atoms.NotOneOf all) = each (value_of kind) all >>= λ vs. Ok (false, OneOf vs)
 test_of kind (atoms.NotPrefix text) = value_of kind text >>= λ v. Ok (false, Prefix (text_of v))
+test_of kind atoms.IsNull = Ok (true, IsNull)
+test_of kind atoms.NotNull = Ok (false, IsNull)
 
 abbrev pub said : ℕ → Output → Bool × Test → Bound
 said place o (true, t) = Testing place o t

@@ -1,5 +1,5 @@
 -- When a bound query stands for its meaning.
-use Rattle.std.specs.Prelude.{◌≡◌, ℕ, ◌+◌, ◌≤◌, ◌&&◌, not, nat_le, nat_lt, Bool, true, List, [], ◌∷◌, map, length, IsTrue}
+use Rattle.std.specs.Prelude.{◌≡◌, ℕ, ◌+◌, ◌≤◌, ◌&&◌, not, nat_le, nat_lt, Bool, true, List, [], ◌∷◌, map, length, slice_get, IsTrue}
 use Rattle.std.specs.List.{list_all, AllZip, AllByRecursion}
 use Rattle.sr_cell.specs.declared.cell.Cell.{Cell}
 use Rattle.sr_cell.specs.declared.table.Column.{Column}
@@ -10,6 +10,7 @@ use Rattle.sr_box.specs.Points.{Rect, in_any, rect_fits, AreSame}
 use Rattle.sr_union.specs.Grid.{has_cut, is_among}
 use Rattle.sr_model.specs.Conditions.{Cond, is_true}
 use Rattle.sr_cell.specs.Cells.{cell_at}
+use Rattle.sr_cell.specs.Faults.{may_be_null}
 use Rattle.sr_model.specs.Width.{width}
 use Rattle.sr_model.specs.Ends.{ends}
 use Rattle.sr_model.specs.Queries as model
@@ -18,16 +19,19 @@ use Rattle.sr_query.specs.declared.query.KeyJoin.{KeyJoin}
 use Rattle.sr_query.specs.declared.condition.Output.{Output}
 use Rattle.sr_query.specs.declared.query.Query.{Query}
 
--- a table that a schema takes: at most twelve columns, the key among them, whose domains are not empty and lie in the default
+-- a table that a schema takes: at most twelve columns, the key among them, whose domains are not empty and lie in the default; the key is
+-- never Null
 abbrev pub is_table : Table → Bool
-is_table t = nat_le (length t.columns) 12 && nat_lt t.key (length t.columns) && list_all (λ c. not (is_bad_domain c)) t.columns
+is_table t =
+    nat_le (length t.columns) 12 && nat_lt t.key (length t.columns) && list_all (λ c. not (is_bad_domain c)) t.columns
+    && not (may_be_null (slice_get t.columns t.key))
 
 -- the rect begins and ends only where a test of the condition does; c is the number of its first column
 abbrev pub EndsWithTests : ℕ → List Column → Cond → Rect → Type 0
 EndsWithTests c [] condition r = Unit {0}
 EndsWithTests c (column ∷ columns) condition [] = Unit {0}
 EndsWithTests c (column ∷ columns) condition (s ∷ r) =
-    ((v : Cell) → has_cut column.kind column.lo column.hi s v ≡ true → is_among (ends c condition) v ≡ true) × EndsWithTests (c + 1) columns condition r
+    ((v : Cell) → has_cut column.kind column.lo column.hi column.nullable s v ≡ true → is_among (ends c condition) v ≡ true) × EndsWithTests (c + 1) columns condition r
 
 -- Rects of a table with just the points for which the condition is true, no more of them than the condition is wide.
 pub record AreRectsOf (columns : List Column) (condition : Cond) (rects : List Rect) : Type 0 where

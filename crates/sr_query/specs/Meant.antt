@@ -18,6 +18,7 @@ test_meant (tests.Compared op v) = compared op v
 test_meant (tests.Between a b) = model.Between a b
 test_meant (tests.OneOf vs) = model.OneOf vs
 test_meant (tests.Prefix p) = model.Prefix p
+test_meant tests.IsNull = model.IsNull
 
 -- whether the atom says its test, and not the contrary
 abbrev pub holds : Atom → Bool
@@ -28,6 +29,8 @@ holds (atoms.Prefix text) = true
 holds (atoms.NotBetween low high) = false
 holds (atoms.NotOneOf all) = false
 holds (atoms.NotPrefix text) = false
+holds atoms.IsNull = true
+holds atoms.NotNull = false
 
 abbrev pub bounds_of : List binding.Bound → binding.Bounds
 bounds_of [] = binding.no_more

@@ -17,6 +17,7 @@ pub enum Test {
     Between(Cell, Cell),
     OneOf(Row),
     Prefix(Text),
+    IsNull,
 }
 
 /// A condition. A test has the place of its reference in the text.

@@ -5,7 +5,7 @@ use Rattle.std.specs.List.{list_any}
 use Rattle.sr_cell.specs.declared.table.Table.{Table}
 use Rattle.sr_grammar.specs.declared.statement.Definition.{Definition}
 use Rattle.sr_grammar.specs.Tokens.{Key, Tok, is, tokens_of}
-use Rattle.sr_grammar.specs.Trees.{Statement, Create, Tree, Defines, statement_of, table_of, is_key, has_bad_domain}
+use Rattle.sr_grammar.specs.Trees.{Statement, Create, Tree, Defines, statement_of, table_of, is_key, is_nullable_key, has_bad_domain}
 use Rattle.sr_grammar.specs.Rules.{Rule, ◌or◌}
 use Rattle.sr_grammar.specs.Columns.{IsCreate}
 use Rattle.sr_grammar.specs.Statements.{IsSelect, IsInsert, IsUpdate, IsDelete, IsStatement}
@@ -48,7 +48,7 @@ spells_create n tree ts p begins =
     (_, _, p.5.5.0 ∙ q.5.5.5.5.0)
 
 defined : (name : List ℕ) (columns : List Definition) (s : Statement) → Ok s ≡ statement_of (Defines name columns) → (t : Table) × (s ≡ Create t)
-defined name columns s same = (table_of name columns, judged_create (list_any has_bad_domain columns) (length (filter is_key columns) == 1) (table_of name columns) s same)
+defined name columns s same = (table_of name columns, judged_create (list_any has_bad_domain columns) (list_any is_nullable_key columns) (length (filter is_key columns) == 1) (table_of name columns) s same)
 
 pub says_create : (sql : List ℕ) (s : Statement) → begins_create (tokens_of sql) ≡ true → Says sql (Ok s) → (t : Table) × (s ≡ Create t)
 says_create sql s begins (inl long) = absurd (let e = long.1 in cc)

@@ -6,7 +6,7 @@ use Rattle.std.specs.Str.Lossy.{utf8_valid_len}
 use Rattle.std.specs.List.{list_all, starts_with}
 use Rattle.sr_cell.specs.declared.table.Table.{Table}
 use Rattle.sr_cell.specs.declared.fault.Fault.{Fault}
-use Rattle.sr_cell.specs.Faults.{table_fault}
+use Rattle.sr_cell.specs.Faults.{fault_with}
 use Rattle.sr_grammar.specs.Tokens.{tokens_of}
 use Rattle.sr_grammar.specs.declared.statement.Statement.{Statement}
 use Rattle.sr_grammar.specs.declared.statement.Statement.TheVariants as statement
@@ -72,7 +72,7 @@ says_only sql s begins says other = let one = says_create sql (statement_seen s)
 
 -- ---- one text
 
-pub added_by : {A E : Type 0} (old new : List Table) (sql : List ℕ) (t : Table) (r : Result A E) → Says sql (Ok (Create t)) → OnOk r (new ≡ old ++ t ∷ []) → OnOk r (table_fault old t ≡ None)
+pub added_by : {A E : Type 0} (old new : List Table) (sql : List ℕ) (t : Table) (r : Result A E) → Says sql (Ok (Create t)) → OnOk r (new ≡ old ++ t ∷ []) → OnOk r (fault_with true old t ≡ None)
     → OnOk r ((x : Table) × AddsTable old sql x × (new ≡ old ++ x ∷ []))
 added_by old new sql t (Ok a) says added faultless = (t, (says, faultless), added)
 added_by old new sql t (Err e) says added faultless = added
@@ -93,7 +93,7 @@ none_some (Some b) a none some = cc
 added_only : (tables : List Table) (sql : List ℕ) (t : Table) (fault : Fault) → AddsTable tables sql t → RefusesTable tables sql fault → ⊥
 added_only tables sql t fault adds (inl says) = no_fault sql (Create t) fault adds.0 says
 added_only tables sql t fault adds (inr bad) =
-    none_some (table_fault tables bad.0) fault (subst (λ z. table_fault tables z ≡ None) (one_create sql t bad.0 adds.0 bad.1) adds.1) bad.2
+    none_some (fault_with true tables bad.0) fault (subst (λ z. fault_with true tables z ≡ None) (one_create sql t bad.0 adds.0 bad.1) adds.1) bad.2
 
 -- ---- one line
 

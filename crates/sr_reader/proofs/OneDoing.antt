@@ -1,9 +1,9 @@
 -- A line does one thing only, so what is read is not refused.
-use Rattle.std.proofs.Common.{◌≡◌, ℕ, ◌+◌, List, [], ◌∷◌, ◌++◌, inl, inr, sym, ap, subst, ◌∙◌}
+use Rattle.std.proofs.Common.{◌≡◌, ℕ, ◌+◌, true, List, [], ◌∷◌, ◌++◌, inl, inr, sym, ap, subst, ◌∙◌}
 use Rattle.std.specs.Prelude.{None, Result, Ok, Err}
 use Rattle.sr_cell.specs.declared.table.Table.{Table}
 use Rattle.sr_cell.specs.declared.fault.Fault.{Fault}
-use Rattle.sr_cell.specs.Faults.{table_fault}
+use Rattle.sr_cell.specs.Faults.{fault_with}
 use Rattle.sr_grammar.specs.Trees.{Statement, Create}
 use Rattle.sr_grammar.specs.Says.{Says}
 use Rattle.sr_grammar_laws.proofs.OneSaying.{each_says_one}
@@ -36,7 +36,7 @@ accepts_from clients i phase (line ∷ lines) events end n fault reads first =
     by (Ok (CreateLine sql)) does (inl here) others = elim here.1 [
       | inl says ↦ no_fault sql (Create does.0) fault does.1.0 says
       | inr bad ↦ (let same = one_create sql does.0 bad.0 does.1.0 bad.1 in
-          let none : table_fault phase.tables bad.0 ≡ None = subst (λ t. table_fault phase.tables t ≡ None) same does.1.1 in
+          let none : fault_with true phase.tables bad.0 ≡ None = subst (λ t. fault_with true phase.tables t ≡ None) same does.1.1 in
           let some = bad.2 in
           cc)
     ]

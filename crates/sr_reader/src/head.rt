@@ -35,7 +35,7 @@ fn add_table(alloc: Global, schema: &mut Schema, sql: &str) -> Result<(), No<Fau
     ensures refused { (fault : TheFault) → IsErrOf result (Refused fault) → RefusesTable schema.old sql.now fault }
 {
     match read(alloc, sql)? {
-        Statement::Create(table) => schema.add(alloc, table),
+        Statement::Create(table) => schema.add_nullable(alloc, table),
         _ => unreachable!(),
     }
 }

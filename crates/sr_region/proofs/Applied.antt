@@ -1,23 +1,18 @@
 -- A region stays one when a change is applied.
 use Rattle.std.proofs.Common.{◌≡◌, ℕ, zero, suc, Bool, true, false, cond, not, ◌||◌, List, [], ◌∷◌, refl, sym, ap, subst, ◌∙◌, arith}
-use Rattle.std.specs.Prelude.{ℤ, Option, Some, None, if◌then◌else◌}
+use Rattle.std.specs.Prelude.{Option, Some, None, if◌then◌else◌}
 use Rattle.std.specs.List.{All}
-use Rattle.std.proofs.lemmas.Int.{ints}
 use Rattle.std.proofs.lemmas.List.Elements.{All-filter, All-head, All-tail, All-weaker}
 use Rattle.sr_cell.specs.declared.cell.Cell.{Cell}
-use Rattle.sr_cell.specs.declared.cell.Cell.TheVariants.{Num, Str}
 use Rattle.sr_cell.specs.declared.table.Column.{Column}
 use Rattle.sr_cell.specs.declared.table.Table.{Table}
-use Rattle.sr_cell.specs.declared.table.Kind.{Kind}
-use Rattle.sr_cell.specs.declared.table.Kind.TheVariants.{Num as Numbers, Str as Texts}
 use Rattle.sr_cell.specs.Attrs.{has_column, project}
 use Rattle.sr_cell.specs.Cells.{Row, cell_at, cell_le, cell_eq}
-use Rattle.sr_cell.specs.Columns.{in_kind, is_point}
-use Rattle.sr_cell.proofs.Order.{apart-cells}
+use Rattle.sr_cell.specs.Columns.{in_column, is_point}
+use Rattle.sr_cell.proofs.Order.{apart-cells, cell_le-total}
 use Rattle.sr_model.specs.SortedRows.{ascend, with_row}
 use Rattle.sr_box.specs.Points.{Rect, in_any}
 use Rattle.sr_rows.specs.Places.{is_apart}
-use Rattle.sr_rows.proofs.Order.{text_le-total}
 use Rattle.sr_rows.proofs.Places.{with_row-ascend}
 use Rattle.sr_rows.proofs.Parts.{ascend-filter}
 use Rattle.sr_region.specs.declared.region.Region.{Region}
@@ -31,13 +26,12 @@ use Rattle.sr_region.proofs.Ordered.{All-with_row}
 
 -- ---- cells of one column are in order
 
-kind-order : (k : Kind) (low high : ℤ) (v w : Cell) → in_kind k low high v ≡ true → in_kind k low high w ≡ true → (cell_le v w || cell_le w v) ≡ true
-kind-order Numbers low high (Num a) (Num b) h g = grind (arith, ints)
-kind-order Numbers low high (Num a) (Str t) h g = absurd (cc)
-kind-order Numbers low high (Str s) w h g = absurd (cc)
-kind-order Texts low high (Num a) w h g = absurd (cc)
-kind-order Texts low high (Str s) (Num b) h g = absurd (cc)
-kind-order Texts low high (Str s) (Str t) h g = text_le-total s t
+column-order : (c : Column) (v w : Cell) → in_column c v ≡ true → in_column c w ≡ true → (cell_le v w || cell_le w v) ≡ true
+column-order c v w h g = go (cell_le v w) refl
+  where
+    go : (b : Bool) → cell_le v w ≡ b → (b || cell_le w v) ≡ true
+    go true e = refl
+    go false e = cell_le-total c.kind c.lo c.hi c.nullable v w h g e
 
 pub cells-order : (cs : List Column) (p q : Row) (n : ℕ) → is_point cs p ≡ true → is_point cs q ≡ true → (cell_le (cell_at p n) (cell_at q n) || cell_le (cell_at q n) (cell_at p n)) ≡ true
 cells-order [] [] [] n h g = refl
@@ -45,7 +39,7 @@ cells-order [] [] (w ∷ q) n h g = absurd (cc)
 cells-order [] (v ∷ p) q n h g = absurd (cc)
 cells-order (c ∷ cs) [] q n h g = absurd (cc)
 cells-order (c ∷ cs) (v ∷ p) [] n h g = absurd (cc)
-cells-order (c ∷ cs) (v ∷ p) (w ∷ q) zero h g = kind-order c.kind c.lo c.hi v w (grind arith) (grind arith)
+cells-order (c ∷ cs) (v ∷ p) (w ∷ q) zero h g = column-order c v w (grind arith) (grind arith)
 cells-order (c ∷ cs) (v ∷ p) (w ∷ q) (suc n) h g = cells-order cs p q n (grind arith) (grind arith)
 
 -- ---- the new row among the others

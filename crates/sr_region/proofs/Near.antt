@@ -14,7 +14,8 @@ use Rattle.sr_cell.specs.Columns.{is_point}
 use Rattle.sr_box.specs.Points.{Rect, in_rect, in_any, times, rect_fits, constrains_only}
 use Rattle.sr_box.specs.Cut.{rect_meet}
 use Rattle.sr_union.specs.Pieces.{near, IsMinus, IsMeet}
-use Rattle.sr_union.specs.Grid.{grid, AreCutFrom, have_first}
+use Rattle.sr_box.specs.Corners.{have_first}
+use Rattle.sr_union.specs.Grid.{grid, AreCutFrom}
 use Rattle.sr_union.proofs.Times.{in_any-times}
 use Rattle.sr_union.proofs.Parts.{are_part}
 use Rattle.sr_union.proofs.Among.{AreCutFrom-append}

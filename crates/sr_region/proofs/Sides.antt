@@ -14,34 +14,35 @@ use Rattle.sr_cell.specs.Attrs.{has_column, project}
 use Rattle.sr_cell.specs.Cells.{Row}
 use Rattle.sr_cell.specs.Columns.{is_point}
 use Rattle.sr_box.specs.declared.span.Span.{Span}
-use Rattle.sr_box.specs.declared.span.Span.TheVariants.{Full, Nums, Strs}
+use Rattle.sr_box.specs.declared.span.Span.TheVariants.{Full, Nums, Strs, Null}
 use Rattle.sr_box.specs.Points.{Rect, Points, in_any, times, rect_fits, constrains_only}
-use Rattle.sr_box.specs.Corners.{cuts_of}
+use Rattle.sr_box.specs.Corners.{cuts_of, have_first}
 use Rattle.sr_rows.proofs.Parts.{ascend-filter}
 use Rattle.sr_union.specs.Pieces.{IsMinus}
-use Rattle.sr_union.specs.Grid.{is_among, has_cut, first_cuts, others, CutsAmong, AreCutFrom, have_first}
+use Rattle.sr_union.specs.Grid.{is_among, has_cut, first_cuts, others, CutsAmong, AreCutFrom}
 use Rattle.sr_union.proofs.Times.{in_any-times}
 use Rattle.sr_union.proofs.Parts.{are_part, are_fit}
 use Rattle.sr_union.proofs.Among.{AreCutFrom-append}
 use Rattle.sr_union.proofs.Once.{are_trans}
 use Rattle.sr_union.proofs.Low.{has_point}
-use Rattle.sr_union.proofs.SpanCuts.{numbers_cut, texts_cut}
+use Rattle.sr_union.proofs.SpanCuts.{numbers_cut, texts_cut, null_has_cut}
 use Rattle.sr_region.specs.declared.region.Region.{Region}
 use Rattle.sr_region.specs.Regions.{rank, is_in, IsRowIn, IsRegion}
 use Rattle.sr_region.specs.Halves.{MaybeHalf, IsInside, IsOutside, half_of}
 use Rattle.sr_region.proofs.Parts.{is_in-point}
 
-no-cut : (k : Kind) (low high : ℤ) → cuts_of k low high Full ≡ []
-no-cut Numbers low high = refl
-no-cut Texts low high = refl
+no-cut : (k : Kind) (low high : ℤ) (nullable : Bool) → cuts_of k low high nullable Full ≡ []
+no-cut Numbers low high nullable = refl
+no-cut Texts low high nullable = refl
 
 -- rects that do not constrain their first column have no cut there
 first-free : (k : Column) (given : List Rect) (attrs c : ℕ) → list_all (constrains_only attrs c) given ≡ true → has_column attrs c ≡ false → (v : Cell) → is_among (first_cuts k given) v ≡ false
 first-free k [] attrs c only free v = refl
 first-free k ([] ∷ given) attrs c only free v = first-free k given attrs c (grind arith) free v
-first-free k ((Full ∷ r) ∷ given) attrs c only free v = rw (no-cut k.kind k.lo k.hi) (first-free k given attrs c (grind arith) free v)
+first-free k ((Full ∷ r) ∷ given) attrs c only free v = rw (no-cut k.kind k.lo k.hi k.nullable) (first-free k given attrs c (grind arith) free v)
 first-free k ((Nums lo hi ∷ r) ∷ given) attrs c only free v = absurd (grind (arith, free))
 first-free k ((Strs lo hi ∷ r) ∷ given) attrs c only free v = absurd (grind (arith, free))
+first-free k ((Null ∷ r) ∷ given) attrs c only free v = absurd (grind (arith, free))
 
 others-only : (given : List Rect) (attrs c : ℕ) → list_all (constrains_only attrs c) given ≡ true → list_all (constrains_only attrs (c + 1)) (others given) ≡ true
 others-only [] attrs c only = refl
@@ -49,11 +50,12 @@ others-only ([] ∷ given) attrs c only = others-only given attrs c (grind arith
 others-only ((Full ∷ r) ∷ given) attrs c only = let ih = others-only given attrs c (grind arith) in grind (arith, ih)
 others-only ((Nums lo hi ∷ r) ∷ given) attrs c only = let ih = others-only given attrs c (grind arith) in grind (arith, ih)
 others-only ((Strs lo hi ∷ r) ∷ given) attrs c only = let ih = others-only given attrs c (grind arith) in grind (arith, ih)
+others-only ((Null ∷ r) ∷ given) attrs c only = let ih = others-only given attrs c (grind arith) in grind (arith, ih)
 
 -- a column with a cut is one of the constrained
 is-constrained : (k : Column) (given : List Rect) (attrs c : ℕ) (s : Span) → list_all (constrains_only attrs c) given ≡ true
-    → ((v : Cell) → has_cut k.kind k.lo k.hi s v ≡ true → is_among (first_cuts k given) v ≡ true)
-    → (v : Cell) × (has_cut k.kind k.lo k.hi s v ≡ true) → has_column attrs c ≡ true
+    → ((v : Cell) → has_cut k.kind k.lo k.hi k.nullable s v ≡ true → is_among (first_cuts k given) v ≡ true)
+    → (v : Cell) × (has_cut k.kind k.lo k.hi k.nullable s v ≡ true) → has_column attrs c ≡ true
 is-constrained k given attrs c s only among cut = go (has_column attrs c) (first-free k given attrs c only)
   where
     go : (b : Bool) → (b ≡ false → (v : Cell) → is_among (first_cuts k given) v ≡ false) → b ≡ true
@@ -67,11 +69,15 @@ cut-only (k ∷ cs) given attrs c [] f h only = refl
 cut-only (k ∷ cs) given attrs c (Full ∷ r) f h only = cut-only cs (others given) attrs (c + 1) r (grind arith) h.1 (others-only given attrs c only)
 cut-only (k ∷ cs) given attrs c (Nums lo hi ∷ r) f h only =
     let ih = cut-only cs (others given) attrs (c + 1) r (grind arith) h.1 (others-only given attrs c only) in
-    let is = is-constrained k given attrs c (Nums lo hi) only h.0 (numbers_cut k.kind k.lo k.hi lo hi (grind arith)) in
+    let is = is-constrained k given attrs c (Nums lo hi) only h.0 (numbers_cut k.kind k.lo k.hi k.nullable lo hi (grind arith)) in
     rw (is, ih) refl
 cut-only (k ∷ cs) given attrs c (Strs lo hi ∷ r) f h only =
     let ih = cut-only cs (others given) attrs (c + 1) r (grind arith) h.1 (others-only given attrs c only) in
-    let is = is-constrained k given attrs c (Strs lo hi) only h.0 (texts_cut k.kind k.lo k.hi lo hi (grind arith)) in
+    let is = is-constrained k given attrs c (Strs lo hi) only h.0 (texts_cut k.kind k.lo k.hi k.nullable lo hi (grind arith)) in
+    rw (is, ih) refl
+cut-only (k ∷ cs) given attrs c (Null ∷ r) f h only =
+    let ih = cut-only cs (others given) attrs (c + 1) r (grind arith) h.1 (others-only given attrs c only) in
+    let is = is-constrained k given attrs c Null only h.0 (null_has_cut k.kind k.lo k.hi k.nullable (grind arith)) in
     rw (is, ih) refl
 
 -- rects whose cuts are among those of others constrain no other columns

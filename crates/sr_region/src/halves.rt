@@ -7,7 +7,8 @@ ghost use Rattle.sr_cell.specs.Cells.{Row as Cells};
 ghost use Rattle.sr_cell.specs.Columns.{is_point};
 ghost use Rattle.sr_box.specs.Points.{times, rect_fits, constrains_only};
 ghost use Rattle.sr_union.specs.Pieces.{near, IsMinus};
-ghost use Rattle.sr_union.specs.Grid.{AreCutFrom, grid, have_first, all_inner};
+ghost use Rattle.sr_box.specs.Corners.{have_first};
+ghost use Rattle.sr_union.specs.Grid.{AreCutFrom, grid, all_inner};
 ghost use Rattle.sr_region.specs.Regions.{is_in, IsRegion};
 ghost use Rattle.sr_region.specs.Halves.{IsInside, IsOutside, IsRefusal, HasFew, half_of};
 

@@ -1,5 +1,5 @@
 -- The columns of a part, one more.
-use Rattle.std.proofs.Common.{◌≡◌, ℕ, ◌<◌, ◌+◌, pos, List, [], ◌∷◌, ◌++◌, map, drop, length, add-one, append_assoc, drop-cons}
+use Rattle.std.proofs.Common.{◌≡◌, ℕ, ◌<◌, ◌+◌, pos, false, List, [], ◌∷◌, ◌++◌, map, drop, length, add-one, append_assoc, drop-cons}
 use Rattle.std.proofs.lemmas.List.{map-append}
 use Rattle.sr_cell.specs.declared.table.Column.{Column}
 use Rattle.sr_cell.specs.declared.table.Kind.TheVariants.{Str}
@@ -10,7 +10,7 @@ use Rattle.sr_query.specs.Bound.{output_of}
 
 columns_more : (part c : ℕ) (columns : List Column) → c < length columns
     → columns_of_part part c (drop c columns) ≡ record { part = part; column = c } ∷ columns_of_part part (c + 1) (drop (c + 1) columns)
-columns_more part c columns h = rw (drop-cons columns c (record { name = []; kind = Str; lo = pos 0; hi = pos 0 })) (rw add-one)
+columns_more part c columns h = rw (drop-cons columns c (record { name = []; kind = Str; lo = pos 0; hi = pos 0; nullable = false })) (rw add-one)
 
 pub column_pushed : (part c : ℕ) (columns : List Column) (before after : List Output) (all : List model.Output) → c < length columns
     → map output_of before ++ columns_of_part part c (drop c columns) ≡ all → after ≡ before ++ record { part = part; column = c } ∷ []

@@ -4,7 +4,7 @@ use Rattle.std.specs.Prelude.{int_le, IsTrue, slice_set, zero, suc, codes}
 use Rattle.std.proofs.lemmas.Bool.{both_ways}
 use Rattle.sr_cell.specs.declared.cause.Cause.TheVariants.{Lapsed}
 use Rattle.sr_cell.specs.declared.cell.Cell.{Cell}
-use Rattle.sr_cell.specs.declared.cell.Cell.TheVariants.{Num, Str}
+use Rattle.sr_cell.specs.declared.cell.Cell.TheVariants.{Num, Str, Null}
 use Rattle.sr_cell.specs.Cells.{Row}
 use Rattle.sr_cell.specs.Columns.{is_point}
 use Rattle.sr_cell.specs.Attrs.{has_column}
@@ -42,11 +42,15 @@ pub an-employee : (p : Row) → IsTrue (is_point employees.columns p) → IsEmpl
 an-employee [] t = absurd (cc)
 an-employee (Num m ∷ []) t = absurd (grind (arith, t))
 an-employee (Str s ∷ q) t = absurd (cc)
+an-employee (Null ∷ q) t = absurd (cc)
 an-employee (Num m ∷ Num n ∷ []) t = absurd (grind (arith, t))
 an-employee (Num m ∷ Str s ∷ q) t = absurd (grind (arith, t))
+an-employee (Num m ∷ Null ∷ q) t = absurd (grind (arith, t))
 an-employee (Num m ∷ Num n ∷ Num k ∷ q) t = absurd (grind (arith, t))
+an-employee (Num m ∷ Num n ∷ Null ∷ q) t = absurd (grind (arith, t))
 an-employee (Num m ∷ Num n ∷ Str s ∷ []) t = absurd (grind (arith, t))
 an-employee (Num m ∷ Num n ∷ Str s ∷ Str e ∷ q) t = absurd (grind (arith, t))
+an-employee (Num m ∷ Num n ∷ Str s ∷ Null ∷ q) t = absurd (grind (arith, t))
 an-employee (Num m ∷ Num n ∷ Str s ∷ Num d ∷ []) t = record { id = m; age = n; name = s; dept = d; is = refl; low = grind (arith, t); high = grind (arith, t) }
 an-employee (Num m ∷ Num n ∷ Str s ∷ Num d ∷ c ∷ q) t = absurd (grind (arith, t))
 

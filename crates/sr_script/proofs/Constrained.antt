@@ -4,7 +4,7 @@ use Rattle.std.proofs.Math.ListN.{drop_of_length-le}
 use Rattle.std.proofs.lemmas.Bool.{cases_lt}
 use Rattle.sr_cell.specs.declared.table.Column.{Column}
 use Rattle.sr_box.specs.declared.span.Span.{Span}
-use Rattle.sr_box.specs.declared.span.Span.TheVariants.{Full, Nums, Strs}
+use Rattle.sr_box.specs.declared.span.Span.TheVariants.{Full, Nums, Strs, Null}
 use Rattle.sr_lines.specs.Texts.{joined}
 use Rattle.sr_script.specs.TraceText.{span_text, spans_text}
 
@@ -12,6 +12,7 @@ pub span_text_one : (c : Column) (s : Span) → (s ≡ Full → ⊥) → span_te
 span_text_one c Full other = absurd (other refl)
 span_text_one c (Nums lo hi) other = refl
 span_text_one c (Strs lo hi) other = refl
+span_text_one c Null other = refl
 
 pub spans_text_nil : (columns : List Column) → spans_text columns [] ≡ []
 spans_text_nil [] = refl

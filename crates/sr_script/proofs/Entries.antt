@@ -9,14 +9,14 @@ use Rattle.sr_cell.specs.declared.table.Kind.{Kind}
 use Rattle.sr_cell.specs.declared.table.Kind.TheVariants.{Num as Numbers, Str as Texts}
 use Rattle.sr_cell.specs.declared.table.Column.{Column}
 use Rattle.sr_box.specs.declared.span.Span.{Span}
-use Rattle.sr_box.specs.declared.span.Span.TheVariants.{Full, Nums, Strs}
+use Rattle.sr_box.specs.declared.span.Span.TheVariants.{Full, Nums, Strs, Null}
 use Rattle.sr_box.specs.Points.{Rect, rect_fits}
 use Rattle.sr_box.specs.Spans.{fits_kind, span_fits}
 use Rattle.sr_lines.specs.Texts.{joined, number_text, bytes_text}
 use Rattle.sr_script.specs.TraceText.{bound_text, span_text, spans_text, rect_text, rects_text}
 use Rattle.sr_script.specs.Printable.{is_name, are_different, is_signed, has_signed_ends}
-use Rattle.sr_script.proofs.Plain.{is_stop, first_is, others_are, number_cut, number_numeral}
-use Rattle.sr_script.proofs.Quoted.{text_cut, no_text}
+use Rattle.sr_script.proofs.Plain.{is_stop, first_is, others_are, number_cut, number_numeral, no_numeral}
+use Rattle.sr_script.proofs.Quoted.{text_cut, no_text, no_n, null_rest}
 use Rattle.sr_script.proofs.Listed.{IsCut, list_cut}
 use Rattle.sr_script.proofs.Named.{no_same, name_cut, name_begins}
 
@@ -27,15 +27,17 @@ abbrev ends_text : Span → List ℕ
 ends_text Full = []
 ends_text (Nums lo hi) = number_text lo ++ (codes ".." ++ number_text hi)
 ends_text (Strs lo hi) = bytes_text lo ++ (codes ".." ++ bound_text hi)
+ends_text Null = codes "null"
 
 abbrev entry_text : Entry → List ℕ
 entry_text (entry name s) = name ++ (codes " " ++ ends_text s)
 
--- both ends are numbers that an i64 holds, or texts
+-- both ends are numbers that an i64 holds, or texts, or it is Null
 abbrev has_ends : Span → Bool
 has_ends Full = false
 has_ends (Nums lo hi) = is_signed lo && is_signed hi
 has_ends (Strs lo hi) = true
+has_ends Null = true
 
 abbrev Fits : Entry → Type 0
 Fits (entry name s) = (is_name name ≡ true) × (has_ends s ≡ true)
@@ -59,6 +61,7 @@ ends_cut : (s t : Span) (x y : List ℕ) (p q : ℕ) → has_ends s ≡ true →
 ends_cut Full t x y p q f g h k e = absurd cc
 ends_cut (Nums a b) Full x y p q f g h k e = absurd cc
 ends_cut (Strs a b) Full x y p q f g h k e = absurd cc
+ends_cut Null Full x y p q f g h k e = absurd cc
 ends_cut (Nums a b) (Nums c d) x y p q f g h k e =
     let low = number_cut a c (46 ∷ (number_text b ++ (p ∷ x))) (46 ∷ (number_text d ++ (q ∷ y))) 46 46 (first_so _ _ f) (first_so _ _ g) refl refl
     (sym (dots (number_text a) (number_text b) (p ∷ x)) ∙ e ∙ dots (number_text c) (number_text d) (q ∷ y)) in
@@ -75,6 +78,15 @@ ends_cut (Nums a b) (Strs c d) x y p q f g h k e =
 ends_cut (Strs a b) (Nums c d) x y p q f g h k e =
     absurd (no_text (number_text c) 46 (46 ∷ (number_text d ++ (q ∷ y))) a (46 ∷ 46 ∷ (bound_text b ++ (p ∷ x))) (number_numeral c (first_so _ _ g)) refl
     (sym (dots (number_text c) (number_text d) (q ∷ y)) ∙ sym e ∙ dots (bytes_text a) (bound_text b) (p ∷ x)))
+ends_cut Null Null x y p q f g h k e = (refl, null_rest (p ∷ x) (q ∷ y) e)
+ends_cut (Nums a b) Null x y p q f g h k e =
+    absurd (no_numeral (number_text a) 46 110 (46 ∷ (number_text b ++ (p ∷ x))) _ (number_numeral a (first_so _ _ f)) refl refl refl
+    (sym (dots (number_text a) (number_text b) (p ∷ x)) ∙ e))
+ends_cut Null (Nums c d) x y p q f g h k e =
+    absurd (no_numeral (number_text c) 46 110 (46 ∷ (number_text d ++ (q ∷ y))) _ (number_numeral c (first_so _ _ g)) refl refl refl
+    (sym (dots (number_text c) (number_text d) (q ∷ y)) ∙ sym e))
+ends_cut (Strs a b) Null x y p q f g h k e = absurd (no_n _ a (46 ∷ 46 ∷ (bound_text b ++ (p ∷ x))) (sym e ∙ dots (bytes_text a) (bound_text b) (p ∷ x)))
+ends_cut Null (Strs c d) x y p q f g h k e = absurd (no_n _ c (46 ∷ 46 ∷ (bound_text d ++ (q ∷ y))) (e ∙ dots (bytes_text c) (bound_text d) (q ∷ y)))
 
 entry_is : (name after : List ℕ) (s : Span) → (name ++ (codes " " ++ ends_text s)) ++ after ≡ name ++ (32 ∷ (ends_text s ++ after))
 entry_is name after s = append_assoc name (32 ∷ ends_text s) after
@@ -97,6 +109,7 @@ abbrev of_span : List ℕ → Span → List Entry → List Entry
 of_span name Full rest = rest
 of_span name (Nums lo hi) rest = entry name (Nums lo hi) ∷ rest
 of_span name (Strs lo hi) rest = entry name (Strs lo hi) ∷ rest
+of_span name Null rest = entry name Null ∷ rest
 
 abbrev entries : List Column → Rect → List Entry
 entries [] r = []
@@ -107,6 +120,7 @@ span_entry : (c : Column) (s : Span) (rest : List Entry) → span_text c s ++ ma
 span_entry c Full rest = refl
 span_entry c (Nums lo hi) rest = refl
 span_entry c (Strs lo hi) rest = refl
+span_entry c Null rest = refl
 
 entries_text : (columns : List Column) (r : Rect) → spans_text columns r ≡ map entry_text (entries columns r)
 entries_text [] r = refl
@@ -119,7 +133,7 @@ signed_between low lo hi high f g a b c = grind (arith, ints)
 span_ends : (c : Column) (s : Span) → has_signed_ends c ≡ true → span_fits c s ≡ true → (s ≡ Full → ⊥) → has_ends s ≡ true
 span_ends c s f g other = by c.kind s g other
   where
-    by : (k : Kind) (s : Span) → fits_kind k c.lo c.hi s ≡ true → (s ≡ Full → ⊥) → has_ends s ≡ true
+    by : (k : Kind) (s : Span) → fits_kind k c.lo c.hi c.nullable s ≡ true → (s ≡ Full → ⊥) → has_ends s ≡ true
     by k Full g other = absurd (other refl)
     by Numbers (Nums lo hi) g other =
         let ordered = first_so (int_le c.lo lo && int_le lo hi && int_le hi c.hi) _ g in
@@ -129,11 +143,13 @@ span_ends c s f g other = by c.kind s g other
     by Numbers (Strs lo hi) g other = absurd cc
     by Texts (Nums lo hi) g other = absurd cc
     by Texts (Strs lo hi) g other = refl
+    by k Null g other = refl
 
 of_fits : (name : List ℕ) (s : Span) (rest : List Entry) → is_name name ≡ true → ((s ≡ Full → ⊥) → has_ends s ≡ true) → AllByRecursion Fits rest → AllByRecursion Fits (of_span name s rest)
 of_fits name Full rest f g h = h
 of_fits name (Nums lo hi) rest f g h = ((f, g (λ e. cc)), h)
 of_fits name (Strs lo hi) rest f g h = ((f, g (λ e. cc)), h)
+of_fits name Null rest f g h = ((f, g (λ e. cc)), h)
 
 entries_fit : (columns : List Column) (r : Rect) → list_all is_name (map (λ (c : Column). c.name) columns) ≡ true → list_all has_signed_ends columns ≡ true → rect_fits columns r ≡ true
     → AllByRecursion Fits (entries columns r)
@@ -149,6 +165,7 @@ foreign_first : (own name : List ℕ) (s t : Span) (found rest : List Entry) →
 foreign_first own name Full t found rest apart others e = others e
 foreign_first own name (Nums lo hi) t found rest apart others e = no_same name own apart (let is : name ≡ own = cc in is)
 foreign_first own name (Strs lo hi) t found rest apart others e = no_same name own apart (let is : name ≡ own = cc in is)
+foreign_first own name Null t found rest apart others e = no_same name own apart (let is : name ≡ own = cc in is)
 
 foreign : (columns : List Column) (r : Rect) (name : List ℕ) (t : Span) (rest : List Entry) → list_any (bytes_eq name) (map (λ (c : Column). c.name) columns) ≡ false
     → entries columns r ≡ entry name t ∷ rest → ⊥
@@ -168,6 +185,13 @@ one_span name (Nums a b) (Nums c d) one other f g e = (let span : Nums a b ≡ N
 one_span name (Strs a b) (Strs c d) one other f g e = (let span : Strs a b ≡ Strs c d = cc in span, let rest : one ≡ other = cc in rest)
 one_span name (Nums a b) (Strs c d) one other f g e = absurd cc
 one_span name (Strs a b) (Nums c d) one other f g e = absurd cc
+one_span name Full Null one other f g e = absurd (f Null other e)
+one_span name Null Full one other f g e = absurd (g Null one (sym e))
+one_span name (Nums a b) Null one other f g e = absurd cc
+one_span name Null (Nums c d) one other f g e = absurd cc
+one_span name (Strs a b) Null one other f g e = absurd cc
+one_span name Null (Strs c d) one other f g e = absurd cc
+one_span name Null Null one other f g e = (refl, let rest : one ≡ other = cc in rest)
 
 same_rect : (columns : List Column) (r q : Rect) → are_different (map (λ (c : Column). c.name) columns) ≡ true → rect_fits columns r ≡ true → rect_fits columns q ≡ true
     → entries columns r ≡ entries columns q → r ≡ q

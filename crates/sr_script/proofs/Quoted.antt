@@ -1,14 +1,14 @@
 -- Texts in quotes, in hexadecimal, and cells: equal texts have the same bytes, and the same follows.
-use Rattle.std.proofs.Common.{◌≡◌, ℕ, ◌+◌, ◌/◌, ◌%◌, Bool, true, false, cond, List, [], ◌∷◌, ◌++◌, refl, sym, ap, ◌∙◌, arith}
+use Rattle.std.proofs.Common.{◌≡◌, ℕ, ◌+◌, ◌/◌, ◌%◌, Bool, true, false, cond, List, [], ◌∷◌, ◌++◌, refl, sym, ap, subst, ◌∙◌, arith}
 use Rattle.std.specs.Prelude.{◌==◌, nat_le, codes, flat_map}
 use Rattle.std.specs.List.{list_all}
 use Rattle.std.proofs.lemmas.Bool.Decides.{nat_tests}
 use Rattle.std.proofs.lemmas.Bool.{both_ways}
 use Rattle.sr_cell.specs.declared.cell.Cell.{Cell}
-use Rattle.sr_cell.specs.declared.cell.Cell.TheVariants.{Num, Str}
+use Rattle.sr_cell.specs.declared.cell.Cell.TheVariants.{Num, Str, Null}
 use Rattle.sr_lines.specs.Texts.{number_text, hex_digit, hex_byte, hexadecimal, quoted_byte, quoted, is_printable, bytes_text, cell_text}
 use Rattle.sr_script.specs.Printable.{is_cell}
-use Rattle.sr_script.proofs.Plain.{is_stop, in_numeral, others_are, number_cut, number_numeral, no_numeral, no_number}
+use Rattle.sr_script.proofs.Plain.{is_stop, in_numeral, first_is, others_are, number_cut, number_numeral, no_numeral, no_number}
 
 -- ---- in quotes
 
@@ -126,14 +126,37 @@ no_shown a p x s after false f g e = no_numeral a p 120 x (39 ∷ in_hex s after
 pub no_text : (a : List ℕ) (p : ℕ) (x s after : List ℕ) → list_all in_numeral a ≡ true → is_stop p ≡ true → a ++ (p ∷ x) ≡ bytes_text s ++ after → ⊥
 no_text a p x s after f g e = no_shown a p x s after (list_all is_printable s) f g (e ∙ text_is s after)
 
+-- a text does not begin as null does
+pub no_n : (x s after : List ℕ) → 110 ∷ x ≡ bytes_text s ++ after → ⊥
+no_n x s after e = by (list_all is_printable s) (e ∙ text_is s after)
+  where
+    by : (k : Bool) → 110 ∷ x ≡ shown k s after → ⊥
+    by true e = let is : 110 ≡ 39 = first_is 110 39 x (inside s after) e in omega (arith, is)
+    by false e = let is : 110 ≡ 120 = first_is 110 120 x (39 ∷ in_hex s after) e in omega (arith, is)
+
+-- what follows null
+pub null_rest : (x y : List ℕ) → codes "null" ++ x ≡ codes "null" ++ y → x ≡ y
+null_rest x y e =
+    let one = others_are 110 110 (117 ∷ 108 ∷ 108 ∷ x) (117 ∷ 108 ∷ 108 ∷ y) e in
+    let two = others_are 117 117 (108 ∷ 108 ∷ x) (108 ∷ 108 ∷ y) one in
+    others_are 108 108 x y (others_are 108 108 (108 ∷ x) (108 ∷ y) two)
+
 pub cell_cut : (c d : Cell) (x y : List ℕ) (p q : ℕ) → is_cell c ≡ true → is_cell d ≡ true → is_stop p ≡ true → is_stop q ≡ true
     → cell_text c ++ (p ∷ x) ≡ cell_text d ++ (q ∷ y) → (c ≡ d) × (p ∷ x ≡ q ∷ y)
 cell_cut (Num m) (Num n) x y p q f g s t e = let same = number_cut m n x y p q f g s t e in (ap Num same.0, same.1)
 cell_cut (Str a) (Str b) x y p q f g s t e = let same = text_cut a b x y p q s t e in (ap Str same.0, same.1)
 cell_cut (Num m) (Str b) x y p q f g s t e = absurd (no_text (number_text m) p x b (q ∷ y) (number_numeral m f) s e)
 cell_cut (Str a) (Num n) x y p q f g s t e = absurd (no_text (number_text n) q y a (p ∷ x) (number_numeral n g) t (sym e))
+cell_cut Null Null x y p q f g s t e = (refl, null_rest (p ∷ x) (q ∷ y) e)
+cell_cut (Num m) Null x y p q f g s t e = absurd (no_numeral (number_text m) p 110 x _ (number_numeral m f) s refl refl e)
+cell_cut Null (Num n) x y p q f g s t e = absurd (no_numeral (number_text n) q 110 y _ (number_numeral n g) t refl refl (sym e))
+cell_cut (Str a) Null x y p q f g s t e = absurd (no_n _ a (p ∷ x) (sym e))
+cell_cut Null (Str b) x y p q f g s t e = absurd (no_n _ b (q ∷ y) e)
 
 -- a cell does not begin with a stop
 pub no_cell : (c : Cell) (x y : List ℕ) (p q : ℕ) → is_cell c ≡ true → is_stop p ≡ true → is_stop q ≡ true → cell_text c ++ (p ∷ x) ≡ q ∷ y → ⊥
 no_cell (Num m) x y p q f s t e = no_number m (p ∷ x) y q f t e
 no_cell (Str a) x y p q f s t e = no_text [] q y a (p ∷ x) refl t (sym e)
+no_cell Null x y p q f s t e =
+    let is : 110 ≡ q = cc in
+    let bad : is_stop 110 ≡ true = subst (λ z. is_stop z ≡ true) (sym is) t in cc

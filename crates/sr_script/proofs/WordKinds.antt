@@ -107,7 +107,7 @@ whys =
     the_why.LongText ∷ the_why.BadToken ∷ the_why.Grammar ∷ the_why.Deep ∷ the_why.UnknownTable ∷ the_why.UnknownColumn ∷ the_why.Ambiguous ∷ the_why.WrongType
     ∷ the_why.OutOfDomain ∷ the_why.NotKeyJoin ∷ the_why.Repeated ∷ the_why.WrongCount ∷ the_why.Mixed ∷ the_why.TooWide ∷ the_why.TooManyTables ∷ the_why.NotAWrite
     ∷ the_why.NotAQuery ∷ the_why.DuplicateKey ∷ the_why.DomainCell ∷ the_why.LongCell ∷ the_why.KeyChange ∷ the_why.TableFull ∷ the_why.TooManyChanges ∷ the_why.DuplicateName
-    ∷ the_why.TooManyColumns ∷ the_why.NoKey ∷ the_why.BadDomain ∷ the_why.BadHeader ∷ the_why.BadRecord ∷ the_why.BadNumber ∷ the_why.BadUtf8 ∷ []
+    ∷ the_why.TooManyColumns ∷ the_why.NoKey ∷ the_why.BadDomain ∷ the_why.BadHeader ∷ the_why.BadRecord ∷ the_why.BadNumber ∷ the_why.BadUtf8 ∷ the_why.BadNull ∷ the_why.NullCell ∷ []
 
 why_found : (w : Why) → find why_text whys (why_text w) ≡ Some w
 why_found the_why.LongText = refl

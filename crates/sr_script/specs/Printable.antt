@@ -3,7 +3,7 @@ use Rattle.std.specs.Prelude.{◌≡◌, ℕ, ℤ, pos, negsuc, ◌<◌, ◌^◌
 use Rattle.std.specs.Char.{is_ascii_alphanumeric}
 use Rattle.std.specs.List.{list_all, list_any, AllByRecursion}
 use Rattle.sr_cell.specs.declared.cell.Cell.{Cell}
-use Rattle.sr_cell.specs.declared.cell.Cell.TheVariants.{Num, Str}
+use Rattle.sr_cell.specs.declared.cell.Cell.TheVariants.{Num, Str, Null}
 use Rattle.sr_cell.specs.declared.fault.Fault.{Fault}
 use Rattle.sr_cell.specs.declared.table.Column.{Column}
 use Rattle.sr_cell.specs.declared.table.Table.{Table}
@@ -60,10 +60,11 @@ IsPlace schema t attrs = (t < length schema) × (attrs < 2 ^ length (table_at sc
 abbrev pub AreRects : List Table → ℕ → List Rect → Type 0
 AreRects schema t rects = IsTrue (list_all (rect_fits (table_at schema t).columns) rects)
 
--- a text, or a number that an i64 holds
+-- a text, a number that an i64 holds, or Null
 abbrev pub is_cell : Cell → Bool
 is_cell (Num n) = is_signed n
 is_cell (Str s) = true
+is_cell Null = true
 
 abbrev pub IsRow : Row → Type 0
 IsRow row = IsTrue (list_all is_cell row)

@@ -4,13 +4,13 @@ use Rattle.sr_cell.specs.declared.cause.Cause.{Cause}
 use Rattle.sr_cell.specs.declared.cause.Cause.TheVariants as cause
 use Rattle.sr_cell.specs.declared.fault.Fault.{Fault}
 use Rattle.sr_cell.specs.declared.fault.Why.{Why}
-use Rattle.sr_cell.specs.declared.fault.Why.TheVariants.{LongText, BadToken, Grammar, Deep, UnknownTable, UnknownColumn, Ambiguous, WrongType, OutOfDomain, NotKeyJoin, Repeated, WrongCount, Mixed, TooWide, TooManyTables, NotAWrite, NotAQuery, DuplicateKey, DomainCell, LongCell, KeyChange, TableFull, TooManyChanges, DuplicateName, TooManyColumns, NoKey, BadDomain, BadHeader, BadRecord, BadNumber, BadUtf8}
+use Rattle.sr_cell.specs.declared.fault.Why.TheVariants.{LongText, BadToken, Grammar, Deep, UnknownTable, UnknownColumn, Ambiguous, WrongType, OutOfDomain, NotKeyJoin, Repeated, WrongCount, Mixed, TooWide, TooManyTables, NotAWrite, NotAQuery, DuplicateKey, DomainCell, LongCell, KeyChange, TableFull, TooManyChanges, DuplicateName, TooManyColumns, NoKey, BadDomain, BadHeader, BadRecord, BadNumber, BadUtf8, BadNull, NullCell}
 use Rattle.sr_cell.specs.declared.table.Column.{Column}
 use Rattle.sr_cell.specs.declared.table.Table.{Table}
 use Rattle.sr_cell.specs.Columns.{table_at}
 use Rattle.sr_cell.specs.Attrs.{has_column}
 use Rattle.sr_box.specs.declared.span.Span.{Span}
-use Rattle.sr_box.specs.declared.span.Span.TheVariants.{Full, Nums, Strs}
+use Rattle.sr_box.specs.declared.span.Span.TheVariants.{Full, Nums, Strs, Null}
 use Rattle.sr_box.specs.Points.{Rect}
 use Rattle.sr_lines.specs.Texts.{joined, words, number_text, bytes_text, cell_text}
 use Rattle.sr_script.specs.declared.line.TraceLine.{TraceLine}
@@ -24,11 +24,12 @@ abbrev pub bound_text : Option (List ℕ) → List ℕ
 bound_text None = []
 bound_text (Some hi) = bytes_text hi
 
--- the column's name and the ends of its span, where the span is not Full
+-- the column's name and the ends of its span, or null, where the span is not Full
 abbrev pub span_text : Column → Span → List (List ℕ)
 span_text c Full = []
 span_text c (Nums lo hi) = (c.name ++ (codes " " ++ (number_text lo ++ (codes ".." ++ number_text hi)))) ∷ []
 span_text c (Strs lo hi) = (c.name ++ (codes " " ++ (bytes_text lo ++ (codes ".." ++ bound_text hi)))) ∷ []
+span_text c Null = (c.name ++ (codes " " ++ codes "null")) ∷ []
 
 abbrev pub spans_text : List Column → Rect → List (List ℕ)
 spans_text [] r = []
@@ -81,6 +82,8 @@ why_text BadHeader = codes "bad-header"
 why_text BadRecord = codes "bad-record"
 why_text BadNumber = codes "bad-number"
 why_text BadUtf8 = codes "bad-utf8"
+why_text BadNull = codes "bad-null"
+why_text NullCell = codes "null-cell"
 
 abbrev pub fault_words : Fault → List (List ℕ)
 fault_words fault = why_text fault.why ∷ decimal fault.at ∷ []

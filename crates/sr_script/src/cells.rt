@@ -82,6 +82,10 @@ pub fn push_cell(text: &mut String, cell: &Cell) -> Result<(), NoMemory>
     match cell {
         Cell::Num(number) => push_number(text, *number),
         Cell::Str(string) => push_bytes(text, string.as_str().as_bytes()),
+        Cell::Null => {
+            text.push_str("null")?;
+            Ok(())
+        }
     }
 }
 

@@ -100,7 +100,7 @@ fn push_spans(text: &mut String, columns: &[Column], spans: &[Span]) -> Result<(
     Ok(())
 }
 
-/// Appends a column's name and the ends of its span; nothing where the span is full.
+/// Appends a column's name and the ends of its span, or null; nothing where the span is full.
 fn push_span(text: &mut String, column: &Column, span: &Span) -> Result<(), NoMemory>
     ensures { OnOk result (string_bytes text.new ≡ string_bytes text.old ++ joined (codes ", ") (span_text column.now span.now)) }
 {
@@ -108,6 +108,7 @@ fn push_span(text: &mut String, column: &Column, span: &Span) -> Result<(), NoMe
         Span::Full => Ok(()),
         Span::Nums { lo, hi } => push_numbers(text, column.name.as_str(), *lo, *hi),
         Span::Strs { lo, hi } => push_texts(text, column.name.as_str(), lo, hi),
+        Span::Null => push_null(text, column.name.as_str()),
     }
 }
 
@@ -129,4 +130,11 @@ fn push_texts(text: &mut String, name: &str, lo: &Bytes, hi: &Option<Bytes>) -> 
         None => Ok(()),
         Some(hi) => push_bytes(text, hi.as_slice()),
     }
+}
+
+fn push_null(text: &mut String, name: &str) -> Result<(), NoMemory>
+    ensures { OnOk result (string_bytes text.new ≡ string_bytes text.old ++ (name.now ++ (codes " " ++ codes "null"))) }
+{
+    write!(text, "{name} null")?;
+    Ok(())
 }

@@ -42,6 +42,8 @@ pub fn why_word(why: Why) -> &'static str
         Why::BadRecord => "bad-record",
         Why::BadNumber => "bad-number",
         Why::BadUtf8 => "bad-utf8",
+        Why::BadNull => "bad-null",
+        Why::NullCell => "null-cell",
     }
 }
 

@@ -1,8 +1,10 @@
 -- Of a query of two tables, each named text asks its part.
 use Rattle.std.proofs.Common.{◌≡◌, ℕ, ◌+◌, ◌<◌, Bool, true, false, List, [], ◌∷◌, ◌++◌, map, length, Some, None, refl, sym, ap, subst, ◌∙◌, arith, if◌then◌else◌}
 use Rattle.std.specs.Prelude.{◌&&◌, Ok, Option, filter, slice_index_or, not}
-use Rattle.std.specs.List.{AllZip, AllByRecursion}
+use Rattle.std.specs.List.{AllZip, AllByRecursion, list_all}
 use Rattle.sr_cell.specs.declared.cell.Cell.{Cell}
+use Rattle.sr_cell.specs.declared.cell.Cell.TheVariants.{Num, Str, Null}
+use Rattle.std.proofs.lemmas.Bool.{and_parts}
 use Rattle.sr_cell.specs.declared.fault.Why.TheVariants.{WrongType, OutOfDomain}
 use Rattle.sr_cell.specs.declared.table.Kind.{Kind}
 use Rattle.sr_cell.specs.declared.table.Table.{Table}
@@ -16,7 +18,9 @@ use Rattle.sr_grammar.specs.declared.statement.Atom.TheVariants.{OneOf}
 use Rattle.sr_grammar.specs.Places.{bare_cond, bare_conds, bare_filter, bare_literal}
 use Rattle.sr_grammar.specs.Trees as tree
 use Rattle.sr_join.proofs.Lists.{zip-filter}
-use Rattle.sr_model.specs.Conditions.{Cond, Conds, And, all_true, is_true}
+use Rattle.sr_model.specs.Conditions.{Cond, And, is_true, passes}
+use Rattle.sr_model.specs.Sides.{all_true}
+use Rattle.sr_model.proofs.Sides.{and-true}
 use Rattle.sr_model.specs.Conditions as model
 use Rattle.sr_model.specs.Queries.{Output, Part, Query}
 use Rattle.sr_query.specs.Binding.{Bound, Bounds, Testing, bound, bound_all, bound_select, column_at, column_of, cond_of, conjuncts, each, fault, filter_bound, is_inside, is_of, is_of_part, joins_from, list_conds, named_columns, names_one, narrow, outputs_of, part_of, parts_from, references, resolved, said, sources, tables_from, test_of, value_of, ◌>>=◌}
@@ -227,13 +231,26 @@ all-true-more value (c ∷ bs) b = go (is_true value (cond_of c)) (all-true-more
     go true e = e
     go false e = refl
 
+-- the test for keys that are not Null is true of each of them, and of nothing else
+no-null : (keys : List Cell) → list_all is_inside keys ≡ true → false ≡ is_key keys Null
+no-null [] asked = refl
+no-null (Num n ∷ keys) asked = no-null keys (and_parts (is_inside (Num n)) (list_all is_inside keys) asked).1
+no-null (Str s ∷ keys) asked = no-null keys (and_parts (is_inside (Str s)) (list_all is_inside keys) asked).1
+no-null (Null ∷ keys) asked = absurd cc
+
+one-of : (keys : List Cell) (v : Cell) → list_all is_inside keys ≡ true → passes (model.OneOf keys) v ≡ is_key keys v
+one-of keys (Num n) asked = refl
+one-of keys (Str s) asked = refl
+one-of keys Null asked = no-null keys asked
+
 -- rows that pass with the keys beside are those that pass, and have one of the keys
-pub with-keys : (keys : List Cell) (need key : ℕ) (bs : List Bound) (b : Bound) (rows : List Row) → has_column need key ≡ true → cond_of b ≡ model.Tests key (model.OneOf keys)
+pub with-keys : (keys : List Cell) (need key : ℕ) (bs : List Bound) (b : Bound) (rows : List Row) → list_all is_inside keys ≡ true → has_column need key ≡ true → cond_of b ≡ model.Tests key (model.OneOf keys)
     → map (project need) (filter (λ p. is_true (cell_at p) (And (list_conds (bs ++ b ∷ [])))) rows)
     ≡ filter (λ r. is_key keys (cell_at r (rank need key))) (map (project need) (filter (λ p. is_true (cell_at p) (And (list_conds bs))) rows))
-with-keys keys need key bs b [] has is = refl
-with-keys keys need key bs b (row ∷ rows) has is =
-    rw (all-true-more (cell_at row) bs b, is) (go (all_true (cell_at row) (list_conds bs)) (is_key keys (cell_at row key)) refl (with-keys keys need key bs b rows has is))
+with-keys keys need key bs b [] asked has is = refl
+with-keys keys need key bs b (row ∷ rows) asked has is =
+    rw (and-true (cell_at row) (list_conds (bs ++ b ∷ [])), and-true (cell_at row) (list_conds bs), all-true-more (cell_at row) bs b, is, one-of keys (cell_at row key) asked)
+    (go (all_true (cell_at row) (list_conds bs)) (is_key keys (cell_at row key)) refl (with-keys keys need key bs b rows asked has is))
   where
     go : (a k : Bool) → is_key keys (cell_at row key) ≡ k
         → map (project need) (filter (λ p. is_true (cell_at p) (And (list_conds (bs ++ b ∷ [])))) rows)

@@ -5,7 +5,8 @@ use Rattle.std.specs.List.{All}
 use Rattle.std.proofs.lemmas.List.Elements.{All-head, All-tail}
 use Rattle.sr_cell.specs.declared.cell.Cell.{Cell}
 use Rattle.sr_cell.specs.Attrs.{has_column, project}
-use Rattle.sr_cell.specs.Cells.{Row, cell_at, cell_eq}
+use Rattle.sr_cell.specs.Cells.{Row, cell_at}
+use Rattle.sr_model.specs.Conditions.{Eq, passes}
 use Rattle.sr_model.specs.Queries as model
 use Rattle.sr_model.specs.Queries.{Part, Join, Output, Query, all_meet, combinations, joins_hold, points_of, rows_at, rows_of}
 use Rattle.sr_model.specs.Statements.{Tables}
@@ -114,22 +115,22 @@ module _ (tables : Tables) (s : Sides) (left right : Part) (join : Join) (q : Qu
   -- ---- the rows of one row of the left side
 
   abbrev joins_with : Row → Row → Bool
-  joins_with l r = cell_eq (cell_at l join.column) (cell_at r join.key)
+  joins_with l r = passes (Eq (cell_at r join.key)) (cell_at l join.column)
 
   test-is : (l r : Row) → test (pair l r) ≡ ((joins_with l r && true) && (points_of left l && (points_of right r && true)))
   test-is l r = rw (is.joins_left, is.joins_right) refl
 
   abbrev own : Row → List Row
-  own l = map (λ r. map (output_in s l r) s.outputs) (filter (λ r. cell_eq (cell_at l (left_place s)) (cell_at r (right_place s))) (map (project right.need) (filter (points_of right) rights)))
+  own l = map (λ r. map (output_in s l r) s.outputs) (filter (λ r. passes (Eq (cell_at r (right_place s))) (cell_at l (left_place s))) (map (project right.need) (filter (points_of right) rights)))
 
   inside : (l : Row) → points_of left l ≡ true → map (model.output_of s.outputs) (filter test (chosen l)) ≡ own (project left.need l)
   inside l meets =
       chosen-images (model.output_of s.outputs) test (pair l) (λ r. model.output_of s.outputs (pair l r)) (λ r. joins_with l r && points_of right r) rights
       (λ r. test-is l r ∙ all-true (joins_with l r) (points_of right r) (points_of left l) meets) (λ r. refl)
       ∙ (ap (map (λ r. model.output_of s.outputs (pair l r))) (filter-both (joins_with l) (points_of right) rights)
-      ∙ sym (chosen-images (λ r. map (output_in s (project left.need l) r) s.outputs) (λ r. cell_eq (cell_at (project left.need l) (left_place s)) (cell_at r (right_place s))) (project right.need)
+      ∙ sym (chosen-images (λ r. map (output_in s (project left.need l) r) s.outputs) (λ r. passes (Eq (cell_at r (right_place s))) (cell_at (project left.need l) (left_place s))) (project right.need)
       (λ r. model.output_of s.outputs (pair l r)) (joins_with l) (filter (points_of right) rights)
-      (λ r. ap (λ (v : Cell). cell_eq v (cell_at (project right.need r) (right_place s))) (same-left l) ∙ ap (cell_eq (cell_at l join.column)) (same-right r))
+      (λ r. ap (λ (v : Cell). passes (Eq (cell_at (project right.need r) (right_place s))) v) (same-left l) ∙ ap (λ (w : Cell). passes (Eq w) (cell_at l join.column)) (same-right r))
       (λ r. same-outputs l r s.outputs is.needs)))
 
   outside : (l : Row) → points_of left l ≡ false → map (model.output_of s.outputs) (filter test (chosen l)) ≡ []

@@ -14,7 +14,7 @@ use Rattle.sr_query.specs.Binding.{column_at}
 use Rattle.sr_cell.specs.declared.cell.Cell.{Cell}
 use Rattle.sr_cell.specs.declared.cell.Cell.TheVariants.{Num}
 use Rattle.sr_cell.specs.declared.fault.Fault.{Fault}
-use Rattle.sr_cell.specs.Cells.{Row, cell_at, cell_eq, cell_le}
+use Rattle.sr_cell.specs.Cells.{Row, cell_at, cell_eq, cell_le, is_null}
 use Rattle.sr_cell.proofs.Order.{cell_eq-sound}
 use Rattle.sr_grammar.specs.declared.statement.Name.{Name}
 use Rattle.sr_grammar.specs.declared.statement.Cond.{Cond}
@@ -27,7 +27,7 @@ use Rattle.sr_grammar_laws.specs.Readers.{whole}
 use Rattle.sr_grammar_laws.proofs.Top.{each_is_exact}
 use Rattle.sr_grammar_laws.proofs.OneSaying.{each_says_one}
 use Rattle.sr_semi.specs.Going.{is_got, is_read, is_statement, joined, joined_to}
-use Rattle.sr_semi.specs.Keys.{IsKeyAt, at_most, by_key, with_key, with_value, values_behind}
+use Rattle.sr_semi.specs.Keys.{IsKeyAt, at_most, by_key, with_key, with_known, with_value, values_behind}
 use Rattle.sr_semi.specs.Sides.{Sides}
 use Rattle.sr_semi.specs.Texts.{all_names, names_in}
 
@@ -72,11 +72,18 @@ grows-by (w ∷ ws) v = go (cell_eq v w) (cell_le v w) (grows-by ws v)
     go false true ih = omega arith
     go false false ih = omega (arith, ih)
 
+grows-known : (vs : List Cell) (v : Cell) → length vs ≤ length (with_known vs v)
+grows-known vs v = go (is_null v) (grows-by vs v)
+  where
+    go : (b : Bool) → length vs ≤ length (with_value vs v) → length vs ≤ length (if b then vs else with_value vs v)
+    go true ih = omega arith
+    go false ih = ih
+
 grows : (place : ℕ) (vs : List Cell) (rows : List Row) → length vs ≤ length (values_behind place vs rows)
 grows place vs [] = omega arith
 grows place vs (row ∷ rows) =
-    let one = grows-by vs (cell_at row place) in
-    let others = grows place (with_value vs (cell_at row place)) rows in
+    let one = grows-known vs (cell_at row place) in
+    let others = grows place (with_known vs (cell_at row place)) rows in
     omega (arith, one, others)
 
 -- where there are too many already, there are too many
@@ -88,9 +95,9 @@ too-many most place vs rows all e less =
     rw many refl
 
 pub values-more : (place : ℕ) (vs : List Cell) (rows : List Row) (i : ℕ) (row : Row) → i < length rows → row ≡ slice_index_or rows i row
-    → values_behind place vs (drop i rows) ≡ values_behind place (with_value vs (cell_at row place)) (drop (i + 1) rows)
+    → values_behind place vs (drop i rows) ≡ values_behind place (with_known vs (cell_at row place)) (drop (i + 1) rows)
 values-more place vs rows i row less is =
-    at_drop_more (values_behind place vs) rows i row less ∙ ap (λ r. values_behind place (with_value vs (cell_at r place)) (drop (i + 1) rows)) (sym is)
+    at_drop_more (values_behind place vs) rows i row less ∙ ap (λ r. values_behind place (with_known vs (cell_at r place)) (drop (i + 1) rows)) (sym is)
 
 -- the rows that were found for a key are those of each value that equals it
 pub found-at : (p : ℕ) (all : List Row) (keys : List Cell) (found : List (List Row)) (i : ℕ) (v : Cell) (rows : List Row)
@@ -117,7 +124,7 @@ joined-more s lefts rights i left old new total less is made e =
 
 pub absent_column : (t : Table) → slice_get t.columns t.key ≡ None → (column_at t t.key).name ≡ []
 absent_column t none =
-    let d : Column = record { name = []; kind = kinds.Str; lo = pos 0; hi = pos 0 } in
+    let d : Column = record { name = []; kind = kinds.Str; lo = pos 0; hi = pos 0; nullable = false } in
     ap (λ (c : Column). c.name) (sym (unwrap_or-slice_get t.columns t.key d) ∙ ap (λ o. unwrap_or o d) none)
 
 -- ---- reading

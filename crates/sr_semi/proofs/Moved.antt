@@ -84,6 +84,8 @@ test-bare kind (atoms.NotBetween low high) t e =
     rw (value-bare kind low x.0 x.1, value-bare kind high y.0 y.1) y.2
 test-bare kind (atoms.NotOneOf all) t e = let x = split_ok (each (value_of kind) all) _ t e in rw (values-bare kind all x.0 x.1) x.2
 test-bare kind (atoms.NotPrefix text) t e = let x = split_ok (value_of kind text) _ t e in rw (value-bare kind text x.0 x.1) x.2
+test-bare kind atoms.IsNull t e = e
+test-bare kind atoms.NotNull t e = e
 
 -- ---- references
 

@@ -5,10 +5,10 @@ use Rattle.sr_cell.specs.declared.fault.Fault.{Fault}
 use Rattle.std.specs.List.{list_all, list_any}
 use Rattle.std.proofs.lemmas.Bool.{or_parts}
 use Rattle.std.proofs.lemmas.Option.{same_Some}
-use Rattle.sr_cell.specs.declared.fault.Why.TheVariants.{NoKey, BadDomain}
+use Rattle.sr_cell.specs.declared.fault.Why.TheVariants.{NoKey, BadDomain, BadNull}
 use Rattle.sr_grammar.specs.declared.statement.Definition.{Definition}
 use Rattle.sr_grammar.specs.Tokens.{Bad, Tok, of_kind, tokens_of}
-use Rattle.sr_grammar.specs.Trees.{Cond, Select, Statement, Create, Selects, Tree, Defines, Says as Stated, statement_of, has_bad_domain, is_key, table_of}
+use Rattle.sr_grammar.specs.Trees.{Cond, Select, Statement, Create, Selects, Tree, Defines, Says as Stated, statement_of, has_bad_domain, is_key, is_nullable_key, table_of}
 use Rattle.sr_grammar.specs.Rules.{Rule, ◌or◌}
 use Rattle.sr_grammar.specs.Columns.{IsCreate}
 use Rattle.sr_grammar.specs.Statements.{Where, IsWhere, filter_of, select_of, IsSelect, IsInsert, IsUpdate, IsDelete, IsStatement}
@@ -111,16 +111,20 @@ no-where tree u s c is none e has =
     let wrong : None ≡ Some c = sym none ∙ (ap where_of same ∙ has) in
     cc wrong
 
-abbrev created : Bool → Bool → List ℕ → List Definition → Result Statement Fault
-created bad one name columns = if bad then Err (record { why = BadDomain; at = 0 }) else (if one then Ok (Create (table_of name columns)) else Err (record { why = NoKey; at = 0 }))
+abbrev created : Bool → Bool → Bool → List ℕ → List Definition → Result Statement Fault
+created bad null one name columns =
+    if bad then Err (record { why = BadDomain; at = 0 })
+    else if null then Err (record { why = BadNull; at = 0 })
+    else (if one then Ok (Create (table_of name columns)) else Err (record { why = NoKey; at = 0 }))
 
 no-create : (name : List ℕ) (columns : List Definition) (s : Statement) (c : Cond) → statement_of (Defines name columns) ≡ Ok s → where_of s ≡ Some c → ⊥
-no-create name columns s c e has = go (list_any has_bad_domain columns) (length (filter is_key columns) == 1) e
+no-create name columns s c e has = go (list_any has_bad_domain columns) (list_any is_nullable_key columns) (length (filter is_key columns) == 1) e
   where
-    go : (bad one : Bool) → created bad one name columns ≡ Ok s → ⊥
-    go true one e = cc e
-    go false true e = no-where (Stated (Create (table_of name columns))) (Create (table_of name columns)) s c refl refl e has
-    go false false e = cc e
+    go : (bad null one : Bool) → created bad null one name columns ≡ Ok s → ⊥
+    go true null one e = cc e
+    go false true one e = cc e
+    go false false true e = no-where (Stated (Create (table_of name columns))) (Create (table_of name columns)) s c refl refl e has
+    go false false false e = cc e
 
 where-spelled : (n : ℕ) (w : Option Where) (x : List Tok) (c : Cond) → Writable x → IsWhere n w x → filter_of w ≡ Some c → AreSayable (conjuncts c)
 where-spelled n None x c w h e = absurd cc

@@ -5,7 +5,7 @@ use Rattle.std.specs.List.{AllByRecursion}
 use Rattle.std.proofs.lemmas.List.{append-nil}
 use Rattle.std.proofs.lemmas.Fmt.{decimal_is_IsNumeral}
 use Rattle.sr_cell.specs.declared.cell.Cell.{Cell}
-use Rattle.sr_cell.specs.declared.cell.Cell.TheVariants.{Num, Str}
+use Rattle.sr_cell.specs.declared.cell.Cell.TheVariants.{Num, Str, Null}
 use Rattle.sr_grammar.specs.declared.statement.Name.{Name}
 use Rattle.sr_grammar.specs.declared.statement.Atom.TheVariants.{OneOf}
 use Rattle.sr_grammar.specs.Tokens.{Tok, Number, Quoted, Mark}
@@ -270,6 +270,7 @@ query-spelled n ns table cs bare is all =
 abbrev pub IsWritten : Cell → Type 0
 IsWritten (Num z) = IsSmall z
 IsWritten (Str s) = Unit {0}
+IsWritten Null = ⊥
 
 number-spelled : (z : ℤ) → IsSmall z → IsLiteral (literal_of (Num z)) (number z 0)
 number-spelled (pos n) small = inr (token Number (decimal n) 0, ap (λ v. Some (record { cell = Num (pos v); place = 0 })) (decimal_is_IsNumeral n (omega arith)).1, refl)
@@ -286,10 +287,12 @@ number-spelled (negsuc n) small =
 cell-spelled : (v : Cell) → IsWritten v → IsLiteral (literal_of v) (literal (literal_of v))
 cell-spelled (Num z) small = number-spelled z small
 cell-spelled (Str s) small = inr (token Quoted s 0, refl, refl)
+cell-spelled Null small = absurd small
 
 cell-writable : (v : Cell) → IsWritten v → Writable (literal (literal_of v))
 cell-writable (Num z) small = writable_number z 0 small
 cell-writable (Str s) small = refl
+cell-writable Null small = absurd small
 
 cells-spelled : (vs : List Cell) → AllByRecursion IsWritten vs → Many (MARK (codes ",") ▸ λ _. IsLiteral) (map literal_of vs) (flat_map (λ b. mark (codes ",") ∷ literal b) (map literal_of vs))
 cells-spelled [] all = refl

@@ -1,11 +1,13 @@
 -- What comes of an answer, stage by stage.
-use Rattle.std.proofs.Common.{◌≡◌, ℕ, Bool, true, false, List, [], ◌∷◌, length, refl, sym, ap, ◌∙◌, if◌then◌else◌}
+use Rattle.std.proofs.Common.{◌≡◌, ℕ, Bool, true, false, List, [], ◌∷◌, ◌++◌, map, length, refl, sym, ap, ◌∙◌, if◌then◌else◌}
 use Rattle.std.specs.Prelude.{◌==◌, ◌&&◌, nat_lt, Option, Some, None}
 use Rattle.std.specs.Cmp.{first_so, second_so}
 use Rattle.std.specs.List.{list_all}
 use Rattle.std.proofs.lemmas.Bool.{eqb-true}
+use Rattle.std.proofs.lemmas.List.Concat.{flat_map-cons}
 use Rattle.sr_cell.specs.declared.cell.Cell.{Cell}
-use Rattle.sr_cell.specs.Cells.{Row}
+use Rattle.sr_cell.specs.declared.cell.Cell.TheVariants.{Num, Str, Null}
+use Rattle.sr_cell.specs.Cells.{Row, cell_at}
 use Rattle.sr_model.specs.Queries.{Part, Join, Query, rows_of}
 use Rattle.sr_model.specs.Statements.{Tables}
 use Rattle.sr_query.specs.Binding.{is_inside}
@@ -14,16 +16,28 @@ use Rattle.sr_semi.specs.declared.stage.Stage.{Stage}
 use Rattle.sr_semi.specs.declared.stage.Stage.TheVariants.{Left, Right, LeftAgain, Over}
 use Rattle.sr_semi.specs.declared.stage.Step.{Step}
 use Rattle.sr_semi.specs.Answers.{rows_in, with_keys, IsRight}
-use Rattle.sr_semi.specs.Going.{behind_left, ends_with, is_read, joined, joins, step_of}
-use Rattle.sr_semi.specs.Keys.{all_have, at_most, most_keys, values_at}
-use Rattle.sr_semi.specs.Sides.{Sides, left_place, right_text}
+use Rattle.sr_semi.specs.Going.{behind_left, ends_with, is_read, joined, joined_to, joins, output_in, step_of}
+use Rattle.sr_semi.specs.Keys.{all_have, at_most, is_met, most_keys, values_at, with_key}
+use Rattle.sr_semi.specs.Sides.{Sides, left_place, right_place, right_text}
 use Rattle.sr_semi.proofs.Deciding.{values-are-among}
 use Rattle.sr_semi.proofs.JoinedRows.{IsOf, joined-is-answer}
 
--- where no row has a key among none, there is no row
-no-rows : (place : ℕ) (rows : List Row) → all_have place [] rows ≡ true → rows ≡ []
-no-rows place [] all = refl
-no-rows place (row ∷ rows) all = absurd cc
+-- where each row has one of no keys, or Null, nothing is joined
+
+none-with : (place : ℕ) (rows : List Row) (v : Cell) → is_met [] v ≡ true → with_key place rows v ≡ []
+none-with place rows (Num n) h = absurd cc
+none-with place rows (Str s) h = absurd cc
+none-with place [] Null h = refl
+none-with place (r ∷ rows) Null h = none-with place rows Null h
+
+none-joined : (s : Sides) (lefts rights : List Row) → all_have (left_place s) [] lefts ≡ true → joined s lefts rights ≡ []
+none-joined s [] rights all = refl
+none-joined s (l ∷ lefts) rights all =
+    let here = first_so (is_met [] (cell_at l (left_place s))) (all_have (left_place s) [] lefts) all in
+    let others = second_so (is_met [] (cell_at l (left_place s))) (all_have (left_place s) [] lefts) all in
+    flat_map-cons (joined_to s rights) l lefts
+    ∙ (ap (λ (found : List Row). map (λ r. map (output_in s l r) s.outputs) found ++ joined s lefts rights) (none-with (right_place s) rights (cell_at l (left_place s)) here)
+    ∙ none-joined s lefts rights others)
 
 -- keys that are not too many are those that are there
 few-keys : (most : ℕ) (all keys : List Cell) → at_most most all ≡ Some keys → keys ≡ all
@@ -33,7 +47,7 @@ few-keys most all keys e = go (nat_lt most (length all)) e
     go true e = absurd cc
     go false e = cc
 
--- The rows that a stage keeps are those of a part, at the version that it names; each left row has one of the keys, which may be compared.
+-- The rows that a stage keeps are those of a part, at the version that it names; each left row has one of the keys, which may be compared, or Null.
 pub record KnowsLeft (rows : List Row) (place : ℕ) (keys : List Cell) (lefts : List Row) : Type 0 where
   pub lefts_are : lefts ≡ rows
   pub among : all_have place keys lefts ≡ true
@@ -85,7 +99,7 @@ module _ (at : ℕ → Tables) (s : Sides) (q : Query) (left right : Part) (join
       let all : all_have (left_place s) [] rows ≡ true = ap (λ ks. all_have (left_place s) ks rows) none ∙ values-are-among (left_place s) rows in
       record {
         next =
-            sym (ap (λ ls. joined s ls (with_keys s [] (rows_in (at version) right))) (no-rows (left_place s) rows all))
+            sym (none-joined s rows (with_keys s [] (rows_in (at version) right)) all)
             ∙ whole version [] rows (with_keys s [] (rows_in (at version) right)) lefts-are refl all;
         stage = tt;
       }

@@ -1,17 +1,17 @@
 -- What is joined is the answer, where each list of rows is that of the text that was named last.
 use Rattle.std.proofs.Common.{◌≡◌, ℕ, zero, suc, ◌<◌, Bool, true, false, List, [], ◌∷◌, ◌++◌, map, length, Some, None, refl, sym, ap, subst, ◌∙◌, arith, ℤ, pos, negsuc, if◌then◌else◌}
-use Rattle.std.specs.Prelude.{◌&&◌, int_le, nat_lt, not, Ok, Option, filter}
+use Rattle.std.specs.Prelude.{◌&&◌, ◌||◌, int_le, nat_lt, not, Ok, Option, filter}
 use Rattle.std.specs.List.{list_all, AllByRecursion}
 use Rattle.std.proofs.lemmas.Bool.{and_parts, ltb-true, leb-true}
 use Rattle.std.proofs.lemmas.Bool.Decides.{nat_tests}
 use Rattle.sr_cell.specs.declared.cell.Cell.{Cell}
-use Rattle.sr_cell.specs.declared.cell.Cell.TheVariants.{Num, Str}
+use Rattle.sr_cell.specs.declared.cell.Cell.TheVariants.{Num, Str, Null}
 use Rattle.sr_cell.specs.declared.table.Column.{Column}
 use Rattle.sr_cell.specs.declared.table.Kind.{Kind}
 use Rattle.sr_cell.specs.declared.table.Kind.TheVariants as kinds
 use Rattle.sr_cell.specs.declared.table.Table.{Table}
 use Rattle.sr_cell.specs.Attrs.{has_column, project}
-use Rattle.sr_cell.specs.Cells.{Row, cell_at, cell_eq, cell_le}
+use Rattle.sr_cell.specs.Cells.{Row, cell_at, cell_eq, cell_le, is_null}
 use Rattle.sr_cell.specs.Columns.{fits_columns, table_at, takes_cell, takes_kind}
 use Rattle.sr_cell.specs.Names.{is_bad_by, is_bad_domain}
 use Rattle.sr_cell.proofs.Order.{cell_le-trans}
@@ -29,7 +29,7 @@ use Rattle.sr_region.specs.Regions.{rank}
 use Rattle.sr_region.proofs.Ranks.{stand}
 use Rattle.sr_semi.specs.declared.stage.Stage.TheVariants.{Left}
 use Rattle.sr_semi.specs.Answers.{IsAnswer, IsSchema, TheyFit, has_names, rows_in, with_keys}
-use Rattle.sr_semi.specs.Keys.{is_key, key_in, values_at, values_behind, with_value}
+use Rattle.sr_semi.specs.Keys.{is_key, key_in, values_at, values_behind, with_known, with_value}
 use Rattle.sr_semi.specs.Laws.{JoinedIsAnswer, TextsAsk, TextsAskParts}
 use Rattle.sr_semi.specs.Sides.{left_place, part_at, right_text, sides_of, tables_of}
 use Rattle.sr_semi.specs.Starting.{Asks}
@@ -44,7 +44,7 @@ use Rattle.sr_semi.proofs.ReadBack.{said-conjuncts}
 use Rattle.sr_semi.proofs.Spelled.{AreSayable, IsSayable, IsWritten, each-append, in-sayable}
 use Rattle.sr_semi.proofs.Telling.{all-right}
 
--- ---- cells that may be compared
+-- ---- cells that may be compared, or are Null
 
 small : (z : ℤ) → is_default z ≡ true → IsSmall z
 small (pos n) e = let less = leb-true n 1099511627775 (and_parts (int_le low_default (pos n)) (int_le (pos n) high_default) e).1 in omega (arith, less)
@@ -53,6 +53,7 @@ small (negsuc n) e = let less = leb-true n 1099511627775 (and_parts (int_le low_
 written : (v : Cell) → is_inside v ≡ true → IsWritten v
 written (Num z) e = small z e
 written (Str s) e = tt
+written Null e = absurd cc
 
 all-written : (vs : List Cell) → list_all is_inside vs ≡ true → AllByRecursion IsWritten vs
 all-written [] e = tt
@@ -61,7 +62,11 @@ all-written (v ∷ vs) e = let p = and_parts (is_inside v) (list_all is_inside v
 le-trans : (a b c : ℤ) → int_le a b ≡ true → int_le b c ≡ true → int_le a c ≡ true
 le-trans a b c e f = cell_le-trans (Num a) (Num b) (Num c) e f
 
-inside-kind : (d : Column) (kind : Kind) (v : Cell) → not (is_bad_by kind d) ≡ true → takes_kind kind d.lo d.hi v ≡ true → is_inside v ≡ true
+-- Null, or a value that may be compared
+abbrev is_held : Cell → Bool
+is_held v = is_null v || is_inside v
+
+inside-kind : (d : Column) (kind : Kind) (v : Cell) → not (is_bad_by kind d) ≡ true → takes_kind kind d.lo d.hi d.nullable v ≡ true → is_held v ≡ true
 inside-kind d kinds.Num (Num n) good takes =
     let t = and_parts (int_le d.lo n) (int_le n d.hi) takes in
     let g = domain (int_le d.lo d.hi && (int_le low_default d.lo && int_le d.hi high_default)) good in
@@ -75,8 +80,9 @@ inside-kind d kinds.Num (Num n) good takes =
 inside-kind d kinds.Num (Str s) good takes = absurd cc
 inside-kind d kinds.Str (Num n) good takes = absurd cc
 inside-kind d kinds.Str (Str s) good takes = takes
+inside-kind d kind Null good takes = refl
 
-inside-cell : (columns : List Column) (row : Row) (c : ℕ) → list_all (λ d. not (is_bad_domain d)) columns ≡ true → fits_columns columns row ≡ true → is_inside (cell_at row c) ≡ true
+inside-cell : (columns : List Column) (row : Row) (c : ℕ) → list_all (λ d. not (is_bad_domain d)) columns ≡ true → fits_columns columns row ≡ true → is_held (cell_at row c) ≡ true
 inside-cell [] [] zero good fits = refl
 inside-cell [] [] (suc c) good fits = refl
 inside-cell [] (v ∷ row) c good fits = absurd cc
@@ -86,34 +92,40 @@ inside-cell (d ∷ columns) (v ∷ row) zero good fits =
 inside-cell (d ∷ columns) (v ∷ row) (suc c) good fits =
     inside-cell columns row c (and_parts (not (is_bad_domain d)) (list_all (λ d. not (is_bad_domain d)) columns) good).1 (and_parts (takes_cell d v) (fits_columns columns row) fits).1
 
-with-inside : (vs : List Cell) (v : Cell) → list_all is_inside vs ≡ true → is_inside v ≡ true → list_all is_inside (with_value vs v) ≡ true
-with-inside [] v all is = rw is refl
-with-inside (w ∷ ws) v all is =
-    let p = and_parts (is_inside w) (list_all is_inside ws) all in
-    go (cell_eq v w) (cell_le v w) p.0 p.1 (with-inside ws v p.1 is)
+with-all : (p : Cell → Bool) (vs : List Cell) (v : Cell) → list_all p vs ≡ true → p v ≡ true → list_all p (with_value vs v) ≡ true
+with-all p [] v all is = rw is refl
+with-all p (w ∷ ws) v all is =
+    let both = and_parts (p w) (list_all p ws) all in
+    go (cell_eq v w) (cell_le v w) both.0 both.1 (with-all p ws v both.1 is)
   where
-    go : (a b : Bool) → is_inside w ≡ true → list_all is_inside ws ≡ true → list_all is_inside (with_value ws v) ≡ true
-        → list_all is_inside (if a then w ∷ ws else (if b then v ∷ w ∷ ws else w ∷ with_value ws v)) ≡ true
+    go : (a b : Bool) → p w ≡ true → list_all p ws ≡ true → list_all p (with_value ws v) ≡ true → list_all p (if a then w ∷ ws else (if b then v ∷ w ∷ ws else w ∷ with_value ws v)) ≡ true
     go true b first others more = rw first others
     go false true first others more = rw (is, first) others
     go false false first others more = rw first more
 
-values-inside : (place : ℕ) (vs : List Cell) (rows : List Row) → list_all is_inside vs ≡ true → list_all (λ r. is_inside (cell_at r place)) rows ≡ true → list_all is_inside (values_behind place vs rows) ≡ true
-values-inside place vs [] all rows = all
-values-inside place vs (row ∷ rows) all each =
-    let p = and_parts (is_inside (cell_at row place)) (list_all (λ r. is_inside (cell_at r place)) rows) each in
-    values-inside place (with_value vs (cell_at row place)) rows (with-inside vs (cell_at row place) all p.0) p.1
+known-asked : (vs : List Cell) (v : Cell) → list_all is_inside vs ≡ true → is_held v ≡ true → list_all is_inside (with_known vs v) ≡ true
+known-asked vs v all is = go (is_null v) refl
+  where
+    go : (b : Bool) → is_null v ≡ b → list_all is_inside (if b then vs else with_value vs v) ≡ true
+    go true e = all
+    go false e = with-all is_inside vs v all (rw e at is)
+
+values-asked : (place : ℕ) (vs : List Cell) (rows : List Row) → list_all is_inside vs ≡ true → list_all (λ r. is_held (cell_at r place)) rows ≡ true → list_all is_inside (values_behind place vs rows) ≡ true
+values-asked place vs [] all rows = all
+values-asked place vs (row ∷ rows) all each =
+    let p = and_parts (is_held (cell_at row place)) (list_all (λ r. is_held (cell_at r place)) rows) each in
+    values-asked place (with_known vs (cell_at row place)) rows (known-asked vs (cell_at row place) all p.0) p.1
 
 rows-inside : (need column : ℕ) (columns : List Column) (p : Row → Bool) (rows : List Row) → has_column need column ≡ true → list_all (λ d. not (is_bad_domain d)) columns ≡ true
-    → list_all (fits_columns columns) rows ≡ true → list_all (λ r. is_inside (cell_at r (rank need column))) (map (project need) (filter p rows)) ≡ true
+    → list_all (fits_columns columns) rows ≡ true → list_all (λ r. is_held (cell_at r (rank need column))) (map (project need) (filter p rows)) ≡ true
 rows-inside need column columns p [] has good fits = refl
 rows-inside need column columns p (row ∷ rows) has good fits =
     let f = and_parts (fits_columns columns row) (list_all (fits_columns columns) rows) fits in
     go (p row) f.0 (rows-inside need column columns p rows has good f.1)
   where
-    go : (b : Bool) → fits_columns columns row ≡ true → list_all (λ r. is_inside (cell_at r (rank need column))) (map (project need) (filter p rows)) ≡ true
-        → list_all (λ r. is_inside (cell_at r (rank need column))) (map (project need) (if b then row ∷ filter p rows else filter p rows)) ≡ true
-    go true one more = rw (ap is_inside (stand need column row has) ∙ inside-cell columns row column good one) more
+    go : (b : Bool) → fits_columns columns row ≡ true → list_all (λ r. is_held (cell_at r (rank need column))) (map (project need) (filter p rows)) ≡ true
+        → list_all (λ r. is_held (cell_at r (rank need column))) (map (project need) (if b then row ∷ filter p rows else filter p rows)) ≡ true
+    go true one more = rw (ap is_held (stand need column row has) ∙ inside-cell columns row column good one) more
     go false one more = more
 
 -- ---- what is known of a part's table
@@ -211,22 +223,22 @@ module _ (schema : List Table) (sql : List ℕ) (u : tree.Select) (q : Query) (t
       let bs = filter (on_part 1) ph.bs in
       let says = says-part schema both 1 two_are.other refl u.filter ph.bs ph.us filtered ph.apart in
       let matches = matches-keys schema two_are.other cs bs keys (sch.differ two_are.other) right-knows.key says in
-      let name = at-place (λ (c : Column). is_name c.name) table.columns table.key (record { name = []; kind = kinds.Str; lo = pos 0; hi = pos 0 }) (and_parts (is_name table.name) (list_all (λ (c : Column). is_name c.name) table.columns) right-knows.names).1 right-knows.key in
+      let name = at-place (λ (c : Column). is_name c.name) table.columns table.key (record { name = []; kind = kinds.Str; lo = pos 0; hi = pos 0; nullable = false }) (and_parts (is_name table.name) (list_all (λ (c : Column). is_name c.name) table.columns) right-knows.names).1 right-knows.key in
       let all = each-append IsSayable cs (key_in table keys ∷ []) (sayable 1) (in-sayable (column_at table table.key).name key more name (all-written keys inside), tt) in
       let text : right_text (sides_of schema (tree.Selects u) q).right keys ≡ text_of table right_part.need (cs ++ key_in table keys ∷ []) =
       ap (λ (p : Part). text_of (table_at schema p.table) p.need (conjuncts_on schema (tables_of q) 1 u.filter ++ key_in (table_at schema p.table) keys ∷ [])) right-is
       ∙ ap (λ ts. text_of table right_part.need (conjuncts_on schema ts 1 u.filter ++ key_in table keys ∷ [])) tables-are in
       text-rows schema tables two_are.other right_part.need right-may (cs ++ key_in table keys ∷ []) (bs ++ keyed schema two_are.other keys ∷ []) all matches rows
       (subst (λ x. IsAnswer schema tables x rows) text answer)
-      ∙ (with-keys keys right_part.need table.key bs (keyed schema two_are.other keys) (rows_at tables two_are.other) right-knows.needs refl
+      ∙ (with-keys keys right_part.need table.key bs (keyed schema two_are.other keys) (rows_at tables two_are.other) inside right-knows.needs refl
       ∙ ap (λ (p : Part). filter (λ r. is_key keys (cell_at r (rank p.need (table_at schema p.table).key))) (rows_in tables p)) (sym right-is))
 
-  -- the keys are values that columns may have
+  -- the keys are values that columns may have, and none is Null
   pub left-inside : list_all is_inside (values_at (left_place (sides_of schema (tree.Selects u) q)) (rows_in tables t.left)) ≡ true
   left-inside =
       let knows = knows-table schema left_part sch (and_parts (is_sound_part schema left_part) _ sound).0 in
       let has : has_column left_part.need t.join.column ≡ true = ap (λ (p : Part). has_column p.need t.join.column) (sym two_are.left_is) ∙ t.is.needs_left in
-      let all = values-inside (rank left_part.need t.join.column) [] (rows_in tables left_part) refl
+      let all = values-asked (rank left_part.need t.join.column) [] (rows_in tables left_part) refl
       (rows-inside left_part.need t.join.column (table_at schema two_are.one).columns (points_of left_part) (rows_at tables two_are.one) has knows.good (fit two_are.one)) in
       let place : left_place (sides_of schema (tree.Selects u) q) ≡ rank left_part.need t.join.column =
       ap (λ n. rank n (sides_of schema (tree.Selects u) q).left.column) (t.is.left_need ∙ ap (λ (p : Part). p.need) two_are.left_is) ∙ ap (rank left_part.need) t.is.left_column in

@@ -29,7 +29,7 @@ abbrev pub ValuesAreAmong : Type 0
 ValuesAreAmong = (place : ℕ) (rows : List Row) → all_have place (values_at place rows) rows ≡ true
 
 -- The left text asks the rows of the left part; the right text those of the right part that have one of the keys, which are values that
--- columns may have.
+-- columns may have, and none is Null.
 pub record TextsAskParts (schema : List Table) (s : Statement) (q : Query) (tables : Tables) : Type 0 where
   pub left : (rows : List Row) → IsAnswer schema tables (sides_of schema s q).left.text rows → rows ≡ rows_in tables (part_at q 0)
   pub right : (key : Cell) (more : List Cell) (rows : List Row) → list_all is_inside (key ∷ more) ≡ true

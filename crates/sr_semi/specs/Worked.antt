@@ -1,5 +1,5 @@
 -- A worked example: the employees of some ages, with their departments.
-use Rattle.std.specs.Prelude.{ℕ, pos, List, [], ◌∷◌, Some, codes, ◌≡◌}
+use Rattle.std.specs.Prelude.{ℕ, pos, false, List, [], ◌∷◌, Some, codes, ◌≡◌}
 use Rattle.sr_cell.specs.declared.cell.Cell.{Cell}
 use Rattle.sr_cell.specs.declared.cell.Cell.TheVariants.{Num, Str}
 use Rattle.sr_cell.specs.declared.table.Kind.TheVariants.{Num as Numbers, Str as Texts}
@@ -17,15 +17,15 @@ use Rattle.sr_semi.specs.Texts.{text_of}
 abbrev pub employees : Table
 employees = record {
   name = codes "emp";
-  columns = record { name = codes "id"; kind = Numbers; lo = pos 0; hi = pos 9999 } ∷ record { name = codes "age"; kind = Numbers; lo = pos 0; hi = pos 150 }
-      ∷ record { name = codes "name"; kind = Texts; lo = pos 0; hi = pos 0 } ∷ record { name = codes "dept"; kind = Numbers; lo = pos 0; hi = pos 99 } ∷ [];
+  columns = record { name = codes "id"; kind = Numbers; lo = pos 0; hi = pos 9999; nullable = false } ∷ record { name = codes "age"; kind = Numbers; lo = pos 0; hi = pos 150; nullable = false }
+      ∷ record { name = codes "name"; kind = Texts; lo = pos 0; hi = pos 0; nullable = false } ∷ record { name = codes "dept"; kind = Numbers; lo = pos 0; hi = pos 99; nullable = false } ∷ [];
   key = 0;
 }
 
 abbrev pub departments : Table
 departments = record {
   name = codes "dept";
-  columns = record { name = codes "no"; kind = Numbers; lo = pos 0; hi = pos 99 } ∷ record { name = codes "title"; kind = Texts; lo = pos 0; hi = pos 0 } ∷ [];
+  columns = record { name = codes "no"; kind = Numbers; lo = pos 0; hi = pos 99; nullable = false } ∷ record { name = codes "title"; kind = Texts; lo = pos 0; hi = pos 0; nullable = false } ∷ [];
   key = 0;
 }
 

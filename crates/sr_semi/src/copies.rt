@@ -51,6 +51,8 @@ fn copy_atom(alloc: Global, atom: &Atom) -> Result<Atom, NoMemory>
         }
         Atom::NotOneOf(all) => Atom::NotOneOf(copy_literals(alloc, all)?),
         Atom::NotPrefix(text) => Atom::NotPrefix(copy_literal(alloc, text)?),
+        Atom::IsNull => Atom::IsNull,
+        Atom::NotNull => Atom::NotNull,
     })
 }
 

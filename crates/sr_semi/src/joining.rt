@@ -1,7 +1,8 @@
 //! Rows of both sides, joined by the keys.
 ghost use Rattle.std.specs.Prelude.{◌≡◌, ℕ, ◌++◌, List, map, IfSome, IfOk, OnOk};
 ghost use Rattle.std.specs.Option.{option_copied};
-ghost use Rattle.sr_cell.specs.Cells.{Row as Cells, cell_at, cell_eq};
+ghost use Rattle.sr_cell.specs.Cells.{Row as Cells, cell_at};
+ghost use Rattle.sr_model.specs.Conditions.{Eq, passes};
 ghost use Rattle.sr_semi.specs.Going.{joined, joined_to, output_in};
 ghost use Rattle.sr_query.specs.Bound.{output_of};
 ghost use Rattle.sr_semi.specs.Keys.{by_key, with_key};
@@ -41,14 +42,22 @@ fn copy_at(alloc: Global, row: &Row, place: usize) -> Result<Cell, NoMemory>
     }
 }
 
-/// Whether the row has that cell in that place.
+/// Whether a key equals a row's own, as Null equals none.
+#[tactic(auto, using(crate::proofs::Deciding::equal_is))]
+fn joins(key: &Cell, own: &Cell) -> bool
+    ensures { result ≡ passes (Eq own.now) key.now }
+{
+    !key.is_null() && is_equal(key, own)
+}
+
+/// Whether the row has that key in that place.
 #[tactic(auto, using(sr_rows::proofs::Order::cell_at_absent))]
-fn has(row: &Row, place: usize, cell: &Cell) -> bool
-    ensures { result ≡ cell_eq cell.now (cell_at row.now place) }
+fn has(row: &Row, place: usize, key: &Cell) -> bool
+    ensures { result ≡ passes (Eq (cell_at row.now place)) key.now }
 {
     match row.get(place) {
-        Some(own) => is_equal(cell, own),
-        None => is_equal(cell, &Cell::Num(0)),
+        Some(own) => joins(key, own),
+        None => joins(key, &Cell::Num(0)),
     }
 }
 

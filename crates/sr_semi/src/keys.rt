@@ -1,8 +1,8 @@
 //! The keys that a left part has.
 ghost use Rattle.std.specs.Prelude.{◌≡◌, ◌≤◌, length, IfSome, IfOk, OnOk};
 ghost use Rattle.std.specs.Option.{is_some};
-ghost use Rattle.sr_cell.specs.Cells.{cell_at, cell_eq};
-ghost use Rattle.sr_semi.specs.Keys.{IsKeyAt, all_have, at_most, is_key, values_at, with_value};
+ghost use Rattle.sr_cell.specs.Cells.{cell_at, cell_eq, is_null};
+ghost use Rattle.sr_semi.specs.Keys.{IsKeyAt, all_have, at_most, is_key, is_met, values_at, with_known, with_value};
 
 use sr_cell::cell::{Cell, Row};
 use sr_cell::list::{Copied, NoMemory, Seq};
@@ -27,7 +27,7 @@ impl Model for Keys {
 }
 
 impl Keys {
-    /// The different values in that place of the rows, unless there are more than `most`.
+    /// The different values in that place of the rows, without Null, unless there are more than `most`.
     pub fn of(
         alloc: Global,
         rows: &[Row],
@@ -73,12 +73,19 @@ impl Keys {
         }
     }
 
-    /// Whether each row has one of the keys in that place.
+    /// Whether the row has one of the keys in that place, or Null.
+    fn is_met(&self, row: &Row, place: usize) -> bool
+        ensures { result ≡ is_met self.now (cell_at row.now place) }
+    {
+        is_null_at(row, place) || self.find(row, place).is_some()
+    }
+
+    /// Whether each row has one of the keys in that place, or Null.
     pub fn all_have(&self, rows: &[Row], place: usize) -> bool
         ensures { result ≡ all_have place self.now rows.now }
     {
         for row in rows {
-            if self.find(row, place).is_none() {
+            if !self.is_met(row, place) {
                 return false;
             }
         }
@@ -94,15 +101,36 @@ impl Copied for Keys {
     }
 }
 
-/// Adds the row's cell of that place.
+/// Whether the row has Null in that place.
 #[tactic(auto, using(sr_rows::proofs::Order::cell_at_absent))]
-fn add(alloc: Global, cells: &mut Row, row: &Row, place: usize) -> Result<(), NoMemory>
-    ensures { OnOk result (cells.new ≡ with_value cells.old (cell_at row.now place)) }
+fn is_null_at(row: &Row, place: usize) -> bool
+    ensures { result ≡ is_null (cell_at row.now place) }
 {
     match row.get(place) {
-        Some(cell) => add_cell(alloc, cells, cell),
-        None => add_cell(alloc, cells, &Cell::Num(0)),
+        Some(cell) => cell.is_null(),
+        None => false,
     }
+}
+
+/// Adds the row's cell of that place, unless it is Null.
+#[tactic(auto, using(sr_rows::proofs::Order::cell_at_absent))]
+fn add(alloc: Global, cells: &mut Row, row: &Row, place: usize) -> Result<(), NoMemory>
+    ensures { OnOk result (cells.new ≡ with_known cells.old (cell_at row.now place)) }
+{
+    match row.get(place) {
+        Some(cell) => add_known(alloc, cells, cell),
+        None => add_known(alloc, cells, &Cell::Num(0)),
+    }
+}
+
+/// Adds a cell, unless it is Null.
+fn add_known(alloc: Global, cells: &mut Row, cell: &Cell) -> Result<(), NoMemory>
+    ensures { OnOk result (cells.new ≡ with_known cells.old cell.now) }
+{
+    if cell.is_null() {
+        return Ok(());
+    }
+    add_cell(alloc, cells, cell)
 }
 
 /// Adds a cell in its place, unless it is there.

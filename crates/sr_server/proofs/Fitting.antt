@@ -17,7 +17,7 @@ use Rattle.sr_wire.specs.declared.bad_frame.BadFrame.TheVariants.{Direction, Sta
 use Rattle.sr_subs.specs.Subscription.{FitsSome}
 use Rattle.sr_session.specs.Misfits.{or_else}
 use Rattle.sr_session.specs.Sessions.{Database, Session, due, due_if, floor_of, holding_of, is_lost, newest, opened, serve, serve_ask, serve_resume, serve_write}
-use Rattle.sr_session.specs.Refusals.{are_columns, holding_suits, suits_columns, is_open, is_request, part_suits, server_misfit, suits_schema, suits_state, suits_table}
+use Rattle.sr_session.specs.Refusals.{are_columns, holding_suits, suits_columns, suits_wire, is_open, is_request, part_suits, server_misfit, suits_schema, suits_state, suits_table}
 use Rattle.sr_server.specs.Servers.{IsSession, IsSessionIf}
 
 -- ---- points
@@ -97,7 +97,8 @@ resume-fits db wire number version holdings all = by (nat_le version (newest db)
 
 pub serve-fits : (db : Database) (session : Option Session) (m : Message) → suits_schema db.schema m ≡ true → IsSessionIf db session → IsSessionIf db (serve db session m).session
 serve-fits db None (Hello wire client number) suits is = reached db wire [] tt
-serve-fits db None (Resume wire client number version holdings) suits is = resume-fits db wire number version holdings suits
+serve-fits db None (Resume wire client number version holdings) suits is =
+    resume-fits db wire number version holdings (and_parts (suits_wire db.schema wire) (list_all (holding_suits db.schema wire) holdings) suits).1
 serve-fits db None (Ask number fresh parts) suits is = tt
 serve-fits db None (Write number sql) suits is = tt
 serve-fits db None (Welcome number version kept) suits is = tt

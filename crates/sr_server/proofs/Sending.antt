@@ -1,6 +1,6 @@
 -- What a server sends is inside the limits of the format.
 use Rattle.std.proofs.Common.{◌≡◌, ℕ, ℤ, zero, suc, ◌+◌, ◌-◌, ◌≤◌, ◌<◌, Bool, true, false, List, [], ◌∷◌, ◌++◌, length, map, take, drop, refl, sym, ◌∙◌, ap, subst, arith, Option, Some, None, Result, Ok, Err}
-use Rattle.std.specs.Prelude.{◌&&◌, not, nat_le, nat_lt, filter, find, if◌then◌else◌}
+use Rattle.std.specs.Prelude.{◌&&◌, not, nat_le, nat_lt, filter, find, slice_get, if◌then◌else◌}
 use Rattle.std.specs.List.{list_all, All}
 use Rattle.std.specs.Cmp.Derive.{both_true}
 use Rattle.std.proofs.lemmas.Bool.{and_parts, leb-true, ltb-true}
@@ -8,7 +8,7 @@ use Rattle.std.proofs.lemmas.List.{length-append, length-map}
 use Rattle.std.proofs.lemmas.List.Folds.{list_all-append}
 use Rattle.std.proofs.lemmas.List.Elements.{All-nil, All-cons, All-append}
 use Rattle.sr_cell.specs.declared.cell.Cell.{Cell}
-use Rattle.sr_cell.specs.declared.cell.Cell.TheVariants.{Num, Str}
+use Rattle.sr_cell.specs.declared.cell.Cell.TheVariants.{Num, Str, Null}
 use Rattle.sr_cell.specs.declared.change.Change.{Change}
 use Rattle.sr_cell.specs.declared.fault.Fault.{Fault}
 use Rattle.sr_cell.specs.declared.table.Column.{Column}
@@ -18,6 +18,7 @@ use Rattle.sr_cell.specs.declared.table.Table.{Table}
 use Rattle.sr_cell.specs.Attrs.{has_column, project, project_from}
 use Rattle.sr_cell.specs.Cells.{Row, cell_at, cell_eq}
 use Rattle.sr_cell.specs.Columns.{takes_kind, takes_cell, fits_columns, table_at}
+use Rattle.sr_cell.specs.Faults.{may_be_null}
 use Rattle.sr_cell.proofs.Lists.{list_all-filter}
 use Rattle.sr_box.specs.Points.{in_any, rect_fits, constrains_only}
 use Rattle.sr_message.specs.declared.message.AskPart.{AskPart}
@@ -28,7 +29,7 @@ use Rattle.sr_message.specs.declared.message.Tell.{Tell}
 use Rattle.sr_message.specs.Tells.{tell_of}
 use Rattle.sr_subs.specs.Subscription.{touches}
 use Rattle.sr_bytes.specs.Spelling.{is_from_to}
-use Rattle.sr_bytes.specs.Writing.{may_write_cell, may_write_row}
+use Rattle.sr_bytes.specs.Writing.{may_write_cell, may_write_key, may_write_row}
 use Rattle.sr_bytes.proofs.Numbers.{from-to}
 use Rattle.sr_wire.specs.Limits.{may_write_after, may_write_tell, IsSendable}
 use Rattle.sr_wire.specs.declared.bad_frame.BadFrame.TheVariants.{Direction, State, Shape}
@@ -50,11 +51,12 @@ use Rattle.sr_server.specs.Servers.{are_few, IsSessionIf, IsSound}
 
 -- ---- rows of a table
 
-pub cell-short : (k : Kind) (low high : ℤ) (v : Cell) → takes_kind k low high v ≡ true → may_write_cell v ≡ true
-cell-short Numbers low high (Num n) h = refl
-cell-short Numbers low high (Str s) h = absurd (cc)
-cell-short Texts low high (Num n) h = refl
-cell-short Texts low high (Str s) h = h
+pub cell-short : (k : Kind) (low high : ℤ) (nullable : Bool) (v : Cell) → takes_kind k low high nullable v ≡ true → may_write_cell v ≡ true
+cell-short Numbers low high nullable (Num n) h = refl
+cell-short Numbers low high nullable (Str s) h = absurd (cc)
+cell-short Texts low high nullable (Num n) h = refl
+cell-short Texts low high nullable (Str s) h = h
+cell-short kind low high nullable Null h = refl
 
 pub cells-short : (columns : List Column) (row : Row) → fits_columns columns row ≡ true → list_all may_write_cell row ≡ true
 cells-short [] [] fits = refl
@@ -62,7 +64,7 @@ cells-short [] (v ∷ row) fits = absurd (cc)
 cells-short (c ∷ columns) [] fits = absurd (cc)
 cells-short (c ∷ columns) (v ∷ row) fits =
     let p = and_parts (takes_cell c v) (fits_columns columns row) fits in
-    both_true (cell-short c.kind c.lo c.hi v p.0) (cells-short columns row p.1)
+    both_true (cell-short c.kind c.lo c.hi c.nullable v p.0) (cells-short columns row p.1)
 
 row-may : (table : Table) (row : Row) → HasColumns table → fits_columns table.columns row ≡ true → may_write_row row ≡ true
 row-may table row has fits =
@@ -71,15 +73,38 @@ row-may table row has fits =
     let few = has.few in
     both_true (from-to 1 12 (length row) (omega (arith, size, key)) (omega (arith, size, few))) (cells-short table.columns row fits)
 
-cell-may : (row : Row) (c : ℕ) → list_all may_write_cell row ≡ true → may_write_cell (cell_at row c) ≡ true
-cell-may [] c all = refl
-cell-may (v ∷ row) zero all = (and_parts (may_write_cell v) (list_all may_write_cell row) all).0
-cell-may (v ∷ row) (suc c) all = cell-may row c (and_parts (may_write_cell v) (list_all may_write_cell row) all).1
+-- the cell of a column that is not nullable
+one-may : (kind : Kind) (low high : ℤ) (nullable : Bool) (v : Cell) → not nullable ≡ true → takes_kind kind low high nullable v ≡ true → may_write_key v ≡ true
+one-may kind low high nullable (Num n) never takes = refl
+one-may Numbers low high nullable (Str s) never takes = absurd (cc)
+one-may Texts low high nullable (Str s) never takes = takes
+one-may Numbers low high true Null never takes = absurd (cc)
+one-may Numbers low high false Null never takes = absurd (cc)
+one-may Texts low high true Null never takes = absurd (cc)
+one-may Texts low high false Null never takes = absurd (cc)
+
+cell-may : (columns : List Column) (row : Row) (c : ℕ) → c < length columns → not (may_be_null (slice_get columns c)) ≡ true → fits_columns columns row ≡ true → may_write_key (cell_at row c) ≡ true
+cell-may [] row c below never fits = absurd (omega (arith, below))
+cell-may (column ∷ columns) [] c below never fits = absurd (cc)
+cell-may (column ∷ columns) (v ∷ row) zero below never fits =
+    one-may column.kind column.lo column.hi column.nullable v never (and_parts (takes_cell column v) (fits_columns columns row) fits).0
+cell-may (column ∷ columns) (v ∷ row) (suc c) below never fits = cell-may columns row c (omega (arith, below)) never (and_parts (takes_cell column v) (fits_columns columns row) fits).1
+
+abbrev may_key : Table → Row → Bool
+may_key table row = may_write_key (cell_at row table.key)
+
+keys-may : (table : Table) (rows : List Row) → is_table table ≡ true → list_all (fits_columns table.columns) rows ≡ true → list_all (may_key table) rows ≡ true
+keys-may table [] is fits = refl
+keys-may table (row ∷ rows) is fits =
+    let s = and_parts (fits_columns table.columns row) (list_all (fits_columns table.columns) rows) fits in
+    let has = one-table table is in
+    let never : not (may_be_null (slice_get table.columns table.key)) ≡ true = (and_parts _ (not (may_be_null (slice_get table.columns table.key))) is).1 in
+    both_true (cell-may table.columns row table.key has.key never s.0) (keys-may table rows is s.1)
 
 -- ---- changes
 
 abbrev may_tell : Change → Bool
-may_tell c = may_write_cell c.key && may_write_after c.after
+may_tell c = may_write_key c.key && may_write_after c.after
 
 found-may : (test : Row → Bool) (rows : List Row) → list_all may_write_row rows ≡ true → may_write_after (find test rows) ≡ true
 found-may test [] all = refl
@@ -98,12 +123,11 @@ rows-may table (row ∷ rows) has fits =
     let s = and_parts (fits_columns table.columns row) (list_all (fits_columns table.columns) rows) fits in
     both_true (row-may table row has s.0) (rows-may table rows has s.1)
 
-changed-may : (table : Table) (t : ℕ) (old new keys : List Row) → list_all may_write_row keys ≡ true → list_all may_write_row new ≡ true → list_all may_tell (map (change_of table t old new) keys) ≡ true
+changed-may : (table : Table) (t : ℕ) (old new keys : List Row) → list_all (may_key table) keys ≡ true → list_all may_write_row new ≡ true → list_all may_tell (map (change_of table t old new) keys) ≡ true
 changed-may table t old new [] all is = refl
 changed-may table t old new (row ∷ keys) all is =
-    let s = and_parts (may_write_row row) (list_all may_write_row keys) all in
-    let cells = (and_parts (is_from_to 1 12 (length row)) (list_all may_write_cell row) s.0).1 in
-    both_true (both_true (cell-may row table.key cells) (found-may (λ r. cell_eq (cell_at r table.key) (cell_at row table.key)) new is)) (changed-may table t old new keys s.1 is)
+    let s = and_parts (may_key table row) (list_all (may_key table) keys) all in
+    both_true (both_true s.0 (found-may (λ r. cell_eq (cell_at r table.key) (cell_at row table.key)) new is)) (changed-may table t old new keys s.1 is)
 
 rows-fit : (table : Table) (rows : List Row) → are_rows table rows ≡ true → list_all (fits_columns table.columns) rows ≡ true
 rows-fit table rows are = (and_parts (ascend table.key rows) (list_all (fits_columns table.columns) rows) (and_parts (ascend table.key rows && list_all (fits_columns table.columns) rows) (nat_le (length rows) 65536) are).0).1
@@ -117,9 +141,8 @@ changes-may t (table ∷ schema) (o ∷ old) (n ∷ new) tables was is =
     let ws = and_parts (are_rows table o) (are_stored schema old) was in
     let ns = and_parts (are_rows table n) (are_stored schema new) is in
     let has = one-table table ts.0 in
-    let old_rows = rows-may table o has (rows-fit table o ws.0) in
     let new_rows = rows-may table n has (rows-fit table n ns.0) in
-    let keys = keys-all may_write_row table.key o n old_rows new_rows in
+    let keys = keys-all (may_key table) table.key o n (keys-may table o ts.0 (rows-fit table o ws.0)) (keys-may table n ts.0 (rows-fit table n ns.0)) in
     list_all-append may_tell (table_changes table t o n) (changes_from (t + 1) schema old new)
     ∙ both_true (list_all-filter may_tell (λ (c : Change). not (same_row c.before c.after)) (map (change_of table t o n) (all_keys table.key o n)) (changed-may table t o n (all_keys table.key o n) keys new_rows))
     (changes-may (t + 1) schema old new ts.1 ws.1 ns.1)

@@ -3,7 +3,7 @@ ghost use Rattle.std.specs.Prelude.{◌≡◌, ◌&&◌, nat_lt, not, ◌==◌, 
 ghost use Rattle.std.specs.List.{list_all};
 ghost use Rattle.sr_cell.specs.Columns.{table_at};
 ghost use Rattle.sr_box.specs.Points.{constrains_only};
-ghost use Rattle.sr_session.specs.Refusals.{is_request, begins, suits_state, suits_schema, holding_suits, suits_columns, are_columns, suits_table, part_suits, server_misfit};
+ghost use Rattle.sr_session.specs.Refusals.{is_request, begins, suits_state, suits_schema, suits_wire, has_no_nullable, holding_suits, suits_columns, are_columns, suits_table, part_suits, server_misfit};
 
 use crate::session::Session;
 use sr_box::rect::Rect;
@@ -76,12 +76,42 @@ fn suits_schema(schema: &Schema, message: &Message) -> bool
     ensures { result ≡ suits_schema schema.now message.now }
 {
     match message {
+        Message::Hello { wire, .. } => suits_wire(schema, *wire),
         Message::Resume { wire, holdings, .. } => {
-            all_holdings_suit(schema, *wire, holdings.as_slice())
+            suits_wire(schema, *wire) && all_holdings_suit(schema, *wire, holdings.as_slice())
         }
         Message::Ask { parts, .. } => all_parts_suit(schema, parts.as_slice()),
         _ => true,
     }
+}
+
+/// Whether no column is nullable, unless the wire can tell of NULL.
+fn suits_wire(schema: &Schema, wire: u8) -> bool
+    ensures { result ≡ suits_wire schema.now wire }
+{
+    wire != WHOLE_WIRE || all_without_nullable(schema.as_slice())
+}
+
+fn all_without_nullable(tables: &[Table]) -> bool
+    ensures { result ≡ list_all has_no_nullable tables.now }
+{
+    for table in tables {
+        if !has_no_nullable(table) {
+            return false;
+        }
+    }
+    true
+}
+
+fn has_no_nullable(table: &Table) -> bool
+    ensures { result ≡ has_no_nullable table.now }
+{
+    for column in table.columns.as_slice() {
+        if column.nullable {
+            return false;
+        }
+    }
+    true
 }
 
 fn all_holdings_suit(schema: &Schema, wire: u8, holdings: &[Holding]) -> bool

@@ -1,6 +1,7 @@
 -- Which messages a server must refuse: the first of three reasons.
 use Rattle.std.specs.Prelude.{ℕ, ◌^◌, ◌/◌, Bool, true, false, not, ◌&&◌, ◌||◌, ◌==◌, nat_lt, nat_le, List, length, Option, Some, None}
 use Rattle.std.specs.List.{list_all}
+use Rattle.sr_cell.specs.declared.table.Column.{Column}
 use Rattle.sr_cell.specs.declared.table.Table.{Table}
 use Rattle.sr_cell.specs.Attrs.{has_column}
 use Rattle.sr_cell.specs.Columns.{table_at}
@@ -76,9 +77,16 @@ holding_suits schema wire h =
     nat_lt h.table (length schema) && list_all (rect_fits (table_at schema h.table).columns) h.rects
     && (wire == 1 || suits_columns (table_at schema h.table) h)
 
+abbrev pub has_no_nullable : Table → Bool
+has_no_nullable table = list_all (λ (column : Column). not column.nullable) table.columns
+
+-- over wire 1 no column is nullable
+abbrev pub suits_wire : List Table → ℕ → Bool
+suits_wire schema wire = not (wire == 1) || list_all has_no_nullable schema
+
 abbrev pub suits_schema : List Table → Message → Bool
-suits_schema schema (Hello wire named number) = true
-suits_schema schema (Resume wire named number version holdings) = list_all (holding_suits schema wire) holdings
+suits_schema schema (Hello wire named number) = suits_wire schema wire
+suits_schema schema (Resume wire named number version holdings) = suits_wire schema wire && list_all (holding_suits schema wire) holdings
 suits_schema schema (Ask number fresh parts) = list_all (part_suits schema) parts
 suits_schema schema (Write number sql) = true
 suits_schema schema (Welcome number version kept) = true

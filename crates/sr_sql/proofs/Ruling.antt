@@ -3,7 +3,7 @@ use Rattle.std.proofs.Common.{◌≡◌, ℕ, zero, suc, ◌+◌, ◌<◌, Bool,
 use Rattle.std.specs.Prelude.{codes}
 use Rattle.std.proofs.lemmas.List.{append-nil}
 use Rattle.sr_grammar.specs.declared.statement.ColumnRule.{ColumnRule}
-use Rattle.sr_grammar.specs.declared.statement.ColumnRule.TheVariants.{PrimaryKey, NotNull, Check as Checks}
+use Rattle.sr_grammar.specs.declared.statement.ColumnRule.TheVariants.{PrimaryKey, NotNull, Null, Check as Checks}
 use Rattle.sr_grammar.specs.Tokens.{Tok}
 use Rattle.sr_grammar.specs.Columns.{Left, all_left}
 use Rattle.sr_grammar_laws.specs.Reading.{Reading, Got, Fails, Reader, ◌>>=◌, and_then, nothing, next_is}
@@ -25,7 +25,7 @@ one_if false = 0
 
 -- how many rules may still stand
 unfoldable pub how_many : Left → ℕ
-how_many left = one_if left.primary + (one_if left.not_null + one_if left.check)
+how_many left = one_if left.primary + (one_if left.null + one_if left.check)
 
 -- what is read behind a rule, if there is one
 abbrev After : Left → Reading (Option ColumnRule) → Reading (List ColumnRule)
@@ -42,28 +42,34 @@ two {A = A} left (Got at mid) w x = go (w mid)
     go (Got a end) = refl
     go (Fails deep bad) = refl
 
+single : (left : Left) (r : Reading ℕ) (x : ColumnRule)
+    → (r >>= λ _. and_then (rules (how_many (without left x)) (without left x)) (λ more. nothing (x ∷ more))) ≡ After left (r >>= λ _. nothing (Some x))
+single left (Got at mid) x = refl
+single left (Fails deep bad) x = refl
+
 one_less : (left : Left) → (left.primary ≡ true → how_many left ≡ suc (how_many (record left { primary = false })))
-    × (left.not_null ≡ true → how_many left ≡ suc (how_many (record left { not_null = false })))
+    × (left.null ≡ true → how_many left ≡ suc (how_many (record left { null = false })))
     × (left.check ≡ true → how_many left ≡ suc (how_many (record left { check = false })))
 unfolding how_many one_if
 one_less left = (λ e. rw e (omega arith), λ e. rw e (omega arith), λ e. rw e (omega arith))
 
-none_more : (k : ℕ) (left : Left) (ts : List Tok) → next_is (may left.primary (codes "PRIMARY")) ts ≡ false → next_is (may left.not_null (codes "NOT")) ts ≡ false
-    → next_is (may left.check (codes "CHECK")) ts ≡ false → rules k left ts ≡ Got [] ts
+none_more : (k : ℕ) (left : Left) (ts : List Tok) → next_is (may left.primary (codes "PRIMARY")) ts ≡ false → next_is (may left.null (codes "NOT")) ts ≡ false
+    → next_is (may left.null (codes "NULL")) ts ≡ false → next_is (may left.check (codes "CHECK")) ts ≡ false → rules k left ts ≡ Got [] ts
 unfolding rules
-none_more zero left ts a b c = refl
-none_more (suc k) left ts a b c = rw (a, b, c) refl
+none_more zero left ts a b c d = refl
+none_more (suc k) left ts a b c d = rw (a, b, c, d) refl
 
 rules_by : (left : Left) (ts : List Tok) → rules (how_many left) left ts ≡ After left (rule left ts)
 unfolding rule rules
-rules_by left ts = go (next_is (may left.primary (codes "PRIMARY")) ts) (next_is (may left.not_null (codes "NOT")) ts) (next_is (may left.check (codes "CHECK")) ts) refl refl refl
+rules_by left ts = go (next_is (may left.primary (codes "PRIMARY")) ts) (next_is (may left.null (codes "NOT")) ts) (next_is (may left.null (codes "NULL")) ts) (next_is (may left.check (codes "CHECK")) ts) refl refl refl refl
   where
-    go : (a b c : Bool) → next_is (may left.primary (codes "PRIMARY")) ts ≡ a → next_is (may left.not_null (codes "NOT")) ts ≡ b → next_is (may left.check (codes "CHECK")) ts ≡ c
-        → rules (how_many left) left ts ≡ After left (rule left ts)
-    go true b c p q r = rw ((one_less left).0 (may_true left.primary (codes "PRIMARY") ts p), p) (two left (key (codes "PRIMARY") ts) (key (codes "KEY")) (λ _. PrimaryKey))
-    go false true c p q r = rw ((one_less left).1 (may_true left.not_null (codes "NOT") ts q), p, q) (two left (key (codes "NOT") ts) (key (codes "NULL")) (λ _. NotNull))
-    go false false true p q r = rw ((one_less left).2 (may_true left.check (codes "CHECK") ts r), p, q, r) (two left (key (codes "CHECK") ts) (in_parens check) (λ range. Checks range))
-    go false false false p q r = rw (none_more (how_many left) left ts p q r, p, q, r) refl
+    go : (a b c d : Bool) → next_is (may left.primary (codes "PRIMARY")) ts ≡ a → next_is (may left.null (codes "NOT")) ts ≡ b → next_is (may left.null (codes "NULL")) ts ≡ c
+        → next_is (may left.check (codes "CHECK")) ts ≡ d → rules (how_many left) left ts ≡ After left (rule left ts)
+    go true b c d p q r s = rw ((one_less left).0 (may_true left.primary (codes "PRIMARY") ts p), p) (two left (key (codes "PRIMARY") ts) (key (codes "KEY")) (λ _. PrimaryKey))
+    go false true c d p q r s = rw ((one_less left).1 (may_true left.null (codes "NOT") ts q), p, q) (two left (key (codes "NOT") ts) (key (codes "NULL")) (λ _. NotNull))
+    go false false true d p q r s = rw ((one_less left).1 (may_true left.null (codes "NULL") ts r), p, q, r) (single left (key (codes "NULL") ts) Null)
+    go false false false true p q r s = rw ((one_less left).2 (may_true left.check (codes "CHECK") ts s), p, q, r, s) (two left (key (codes "CHECK") ts) (in_parens check) (λ range. Checks range))
+    go false false false false p q r s = rw (none_more (how_many left) left ts p q r s, p, q, r, s) refl
 
 -- a rule that was read might stand
 found_two : {A : Type 0} (r : Reading ℕ) (w : Reader A) (x : A → ColumnRule) (found : ColumnRule) (rest : List Tok) → (r >>= λ _. and_then w (λ a. nothing (Some (x a)))) ≡ Got (Some found) rest → (a : A) × (found ≡ x a)
@@ -74,24 +80,33 @@ found_two {A = A} (Got at mid) w x found rest e = go (w mid) e
     go (Got a end) e = let k : x a ≡ found = cc in (a, sym k)
     go (Fails deep bad) e = absurd cc
 
+found_one : (r : Reading ℕ) (x found : ColumnRule) (rest : List Tok) → (r >>= λ _. nothing (Some x)) ≡ Got (Some found) rest → found ≡ x
+found_one (Fails deep bad) x found rest e = absurd cc
+found_one (Got at mid) x found rest e = let k : x ≡ found = cc in sym k
+
 pub rules_less : (left : Left) (ts : List Tok) (found : ColumnRule) (rest : List Tok) → rule left ts ≡ Got (Some found) rest → how_many (without left found) < how_many left
 unfolding rule
-rules_less left ts found rest e = go (next_is (may left.primary (codes "PRIMARY")) ts) (next_is (may left.not_null (codes "NOT")) ts) (next_is (may left.check (codes "CHECK")) ts) refl refl refl
+rules_less left ts found rest e = go (next_is (may left.primary (codes "PRIMARY")) ts) (next_is (may left.null (codes "NOT")) ts) (next_is (may left.null (codes "NULL")) ts) (next_is (may left.check (codes "CHECK")) ts) refl refl refl refl
   where
-    go : (a b c : Bool) → next_is (may left.primary (codes "PRIMARY")) ts ≡ a → next_is (may left.not_null (codes "NOT")) ts ≡ b → next_is (may left.check (codes "CHECK")) ts ≡ c → how_many (without left found) < how_many left
-    go true b c p q r =
+    go : (a b c d : Bool) → next_is (may left.primary (codes "PRIMARY")) ts ≡ a → next_is (may left.null (codes "NOT")) ts ≡ b → next_is (may left.null (codes "NULL")) ts ≡ c
+        → next_is (may left.check (codes "CHECK")) ts ≡ d → how_many (without left found) < how_many left
+    go true b c d p q r s =
         let f = found_two (key (codes "PRIMARY") ts) (key (codes "KEY")) (λ _. PrimaryKey) found rest (rw p at e) in
         let less = (one_less left).0 (may_true left.primary (codes "PRIMARY") ts p) in
         rw f.1 (omega (arith, less))
-    go false true c p q r =
+    go false true c d p q r s =
         let f = found_two (key (codes "NOT") ts) (key (codes "NULL")) (λ _. NotNull) found rest (rw (p, q) at e) in
-        let less = (one_less left).1 (may_true left.not_null (codes "NOT") ts q) in
+        let less = (one_less left).1 (may_true left.null (codes "NOT") ts q) in
         rw f.1 (omega (arith, less))
-    go false false true p q r =
-        let f = found_two (key (codes "CHECK") ts) (in_parens check) (λ range. Checks range) found rest (rw (p, q, r) at e) in
-        let less = (one_less left).2 (may_true left.check (codes "CHECK") ts r) in
+    go false false true d p q r s =
+        let f = found_one (key (codes "NULL") ts) Null found rest (rw (p, q, r) at e) in
+        let less = (one_less left).1 (may_true left.null (codes "NULL") ts r) in
+        rw f (omega (arith, less))
+    go false false false true p q r s =
+        let f = found_two (key (codes "CHECK") ts) (in_parens check) (λ range. Checks range) found rest (rw (p, q, r, s) at e) in
+        let less = (one_less left).2 (may_true left.check (codes "CHECK") ts s) in
         rw f.1 (omega (arith, less))
-    go false false false p q r = let f : Got None ts ≡ Got (Some found) rest = rw (p, q, r) at e in absurd (let k : None ≡ Some found = cc in cc)
+    go false false false false p q r s = let f : Got None ts ≡ Got (Some found) rest = rw (p, q, r, s) at e in absurd (let k : None ≡ Some found = cc in cc)
 
 -- what was read before, and what is still read, is all
 pub record Ruling (front : List ColumnRule) (left : Left) (ts : List Tok) (total : Reading (List ColumnRule)) : Type 0 where

@@ -28,11 +28,11 @@ pub(crate) struct Written {
     pub(crate) columns: Definitions,
 }
 
-/// Which rules of a column may still stand.
+/// Which rules of a column may still stand; NULL and NOT NULL count as one.
 #[derive(Clone, Copy)]
 pub(crate) struct Left {
     primary: bool,
-    not_null: bool,
+    null: bool,
     check: bool,
 }
 
@@ -100,8 +100,11 @@ fn rule(alloc: Global, cursor: &mut Cursor, left: Left) -> Result<Option<ColumnR
     if let Some(_) = may(cursor, left.primary, "PRIMARY") {
         return cursor.word("KEY").and(Ok(Some(ColumnRule::PrimaryKey)));
     }
-    if let Some(_) = may(cursor, left.not_null, "NOT") {
+    if let Some(_) = may(cursor, left.null, "NOT") {
         return cursor.word("NULL").and(Ok(Some(ColumnRule::NotNull)));
+    }
+    if let Some(_) = may(cursor, left.null, "NULL") {
+        return Ok(Some(ColumnRule::Null));
     }
     if let Some(_) = may(cursor, left.check, "CHECK") {
         let range = enclosed_check(alloc, cursor)?;
@@ -119,8 +122,8 @@ fn without(left: Left, rule: &ColumnRule) -> Left
             primary: false,
             ..left
         },
-        ColumnRule::NotNull => Left {
-            not_null: false,
+        ColumnRule::NotNull | ColumnRule::Null => Left {
+            null: false,
             ..left
         },
         ColumnRule::Check(_) => Left {
@@ -136,7 +139,7 @@ fn rules(alloc: Global, cursor: &mut Cursor) -> Result<Seq<ColumnRule>, Stop>
 {
     let mut left = Left {
         primary: true,
-        not_null: true,
+        null: true,
         check: true,
     };
     let mut all = Seq::new(alloc);

@@ -34,6 +34,20 @@ pub(crate) fn literal(alloc: Global, cursor: &mut Cursor) -> Result<Literal, Sto
     cursor.plain(alloc)
 }
 
+/// A literal, or NULL.
+#[tactic(auto, unfolding(sr_grammar_laws::specs::Readers::value))]
+pub(crate) fn value(alloc: Global, cursor: &mut Cursor) -> Result<Literal, Stop>
+    ensures { Reads (λ l. l) grammar.value cursor.old result cursor.new }
+{
+    if let Some(place) = cursor.maybe_word("NULL") {
+        return Ok(Literal {
+            cell: Cell::Null,
+            place,
+        });
+    }
+    literal(alloc, cursor)
+}
+
 #[tactic(auto, unfolding(sr_grammar_laws::specs::Readers::reference))]
 pub(crate) fn reference(alloc: Global, cursor: &mut Cursor) -> Result<Name, Stop>
     ensures { Reads (λ n. n) grammar.reference cursor.old result cursor.new }
@@ -115,6 +129,18 @@ fn in_list(alloc: Global, cursor: &mut Cursor, not: bool) -> Result<Atom, Stop>
     Ok(Atom::OneOf(all))
 }
 
+/// IS and NULL, with a NOT between them or without.
+#[tactic(auto, unfolding(sr_grammar_laws::specs::Readers::null_test))]
+fn null_test(cursor: &mut Cursor) -> Result<Atom, Stop>
+    ensures { Reads (λ a. a) grammar.null_test cursor.old result cursor.new }
+{
+    cursor.word("IS")?;
+    if let Some(_) = cursor.maybe_word("NOT") {
+        return cursor.word("NULL").and(Ok(Atom::NotNull));
+    }
+    cursor.word("NULL").and(Ok(Atom::IsNull))
+}
+
 /// What is said behind a NOT.
 fn denied(alloc: Global, cursor: &mut Cursor) -> Result<Atom, Stop>
     ensures { Reads (λ a. a) (branch (is Key (codes "BETWEEN")) (grammar.between atoms.NotBetween) (branch (is Key (codes "IN")) (grammar.in_list atoms.NotOneOf) (grammar.like atoms.NotPrefix))) cursor.old result cursor.new }
@@ -143,6 +169,9 @@ fn atom(alloc: Global, cursor: &mut Cursor) -> Result<Atom, Stop>
     }
     if cursor.is_word("LIKE") {
         return like(alloc, cursor, false);
+    }
+    if cursor.is_word("IS") {
+        return null_test(cursor);
     }
     let op = cursor.operator()?;
     let value = literal(alloc, cursor)?;

@@ -1,9 +1,9 @@
-//! Judging the columns of a CREATE: their domains, and the one key.
-ghost use Rattle.std.specs.Prelude.{◌≡◌, ◌≤◌, length, filter, map, IfOk, Ok, Err, IsErrOf};
+//! Judging the columns of a CREATE: their domains, and the one key, which is not nullable.
+ghost use Rattle.std.specs.Prelude.{◌≡◌, ◌≤◌, false, length, filter, map, IfOk, Ok, Err, IsErrOf};
 ghost use Rattle.std.specs.List.{list_any};
 ghost use Rattle.sr_cell.specs.declared.fault.Fault.{Fault as TheFault};
 ghost use Rattle.sr_cell.specs.declared.list.No.TheVariants.{Refused};
-ghost use Rattle.sr_grammar.specs.Trees.{Defines, Create, is_key, may_check, is_bad_rule, has_bad_domain, checked, column_of, key_of, statement_of};
+ghost use Rattle.sr_grammar.specs.Trees.{Defines, Create, is_key, is_nullable, is_nullable_key, may_check, is_bad_rule, has_bad_domain, checked, column_of, key_of, statement_of};
 
 use crate::columns::Written;
 use sr_cell::fault::{Fault, Why};
@@ -30,6 +30,30 @@ fn is_key(column: &Definition) -> bool
 {
     for rule in column.rules.as_slice() {
         if matches!(rule, ColumnRule::PrimaryKey) {
+            return true;
+        }
+    }
+    false
+}
+
+/// Whether a column has the rule NULL.
+fn is_nullable(column: &Definition) -> bool
+    ensures { result ≡ is_nullable column.now }
+{
+    for rule in column.rules.as_slice() {
+        if matches!(rule, ColumnRule::Null) {
+            return true;
+        }
+    }
+    false
+}
+
+/// Whether a column marked as the key has the rule NULL.
+fn any_nullable_key(columns: &[Definition]) -> bool
+    ensures { result ≡ list_any is_nullable_key columns.now }
+{
+    for column in columns {
+        if is_key(column) && is_nullable(column) {
             return true;
         }
     }
@@ -101,7 +125,7 @@ fn first_key(columns: &[Definition]) -> usize
 
 /// The domain of a column: that of its CHECK, or the default; texts have none.
 fn domain(column: &Definition) -> Ends
-    ensures { column_of column.now ≡ record { name = column.now.name; kind = column.now.kind; lo = result.lo; hi = result.hi } }
+    ensures { column_of column.now ≡ record { name = column.now.name; kind = column.now.kind; lo = result.lo; hi = result.hi; nullable = is_nullable column.now } }
 {
     for rule in column.rules.as_slice() {
         match rule {
@@ -132,6 +156,7 @@ fn column_of(alloc: Global, column: &Definition) -> Result<Column, NoMemory>
         kind: column.kind,
         lo: domain.lo,
         hi: domain.hi,
+        nullable: is_nullable(column),
     })
 }
 
@@ -145,7 +170,7 @@ fn columns_of(alloc: Global, columns: &[Definition]) -> Result<Columns, NoMemory
     Ok(all)
 }
 
-/// The table of a CREATE, if its domains are good and one column is the key.
+/// The table of a CREATE, if its domains are good, and one column is the key and has no rule NULL.
 pub(crate) fn table_of(alloc: Global, written: Written) -> Result<Table, No<Fault>>
     requires few { length written.columns ≤ 65536 }
     ensures found { IfOk result (λ table. statement_of (Defines written.name written.columns) ≡ Ok (Create table)) }
@@ -155,6 +180,12 @@ pub(crate) fn table_of(alloc: Global, written: Written) -> Result<Table, No<Faul
     if any_bad_domain(columns) {
         return Err(No::Refused(Fault {
             why: Why::BadDomain,
+            at: 0,
+        }));
+    }
+    if any_nullable_key(columns) {
+        return Err(No::Refused(Fault {
+            why: Why::BadNull,
             at: 0,
         }));
     }

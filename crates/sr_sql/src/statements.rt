@@ -14,13 +14,14 @@ ghost use Rattle.sr_sql.specs.Views.{Reads};
 ghost use Rattle.sr_sql.specs.Next.{word_of};
 ghost use Rattle.sr_sql.specs.Seen.{where_seen, shown_seen, tree_seen};
 
-use crate::conditions::{cond, literal, reference};
+use crate::conditions::{cond, reference, value};
 use crate::cursor::{Cursor, Word};
 use crate::items::{Item, list};
 use crate::read::Parsed;
 use crate::stop::Stop;
 use sr_grammar::statement::{
-    Cond, Delete, Insert, JoinOn, JoinOns, LiteralRow, Name, Names, Select, Set, Statement, Update,
+    Cond, Delete, Insert, JoinOn, JoinOns, LiteralRow, Literals, Name, Names, Select, Set,
+    Statement, Update,
 };
 use std::alloc::Global;
 
@@ -185,13 +186,26 @@ fn column_names(alloc: Global, cursor: &mut Cursor) -> Result<Names, Stop>
     cursor.mark(")").and(Ok(all))
 }
 
+/// Values with commas between them.
+fn values(alloc: Global, cursor: &mut Cursor) -> Result<Literals, Stop>
+    ensures { Reads (λ x. x) (grammar.list Mark (codes ",") grammar.value) cursor.old result cursor.new }
+{
+    let mut all = Literals::new(alloc);
+    'more: loop {
+        all.push(value(alloc, cursor)?)?;
+        let Some(_) = cursor.maybe_mark(",") else {
+            return Ok(all);
+        };
+    }
+}
+
 impl Item for LiteralRow {
     ghost reader = { grammar.row };
 
     #[tactic(auto, unfolding(sr_grammar_laws::specs::Readers::row))]
     fn read(alloc: Global, cursor: &mut Cursor) -> Result<LiteralRow, Stop> {
         let place = cursor.mark("(")?;
-        let literals = list(alloc, cursor)?;
+        let literals = values(alloc, cursor)?;
         cursor.mark(")").and(Ok(LiteralRow { literals, place }))
     }
 
@@ -223,7 +237,7 @@ impl Item for Set {
     fn read(alloc: Global, cursor: &mut Cursor) -> Result<Set, Stop> {
         let name = cursor.name(alloc)?;
         cursor.mark("=")?;
-        let value = literal(alloc, cursor)?;
+        let value = value(alloc, cursor)?;
         Ok(Set {
             name: bare(name),
             value,

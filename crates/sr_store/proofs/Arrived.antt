@@ -9,7 +9,8 @@ use Rattle.sr_cell.specs.Cells.{Row}
 use Rattle.sr_cell.specs.Columns.{table_at, is_point}
 use Rattle.sr_model.specs.SortedRows.{ascend}
 use Rattle.sr_box.specs.Points.{Rect, in_any, times, constrains_only}
-use Rattle.sr_union.specs.Grid.{AreCutFrom, have_first}
+use Rattle.sr_box.specs.Corners.{have_first}
+use Rattle.sr_union.specs.Grid.{AreCutFrom}
 use Rattle.sr_union.proofs.Low.{has_point}
 use Rattle.sr_union.proofs.Once.{in_any-once, once_le, are_trans}
 use Rattle.sr_union.proofs.Parts.{are_fit}

@@ -8,7 +8,8 @@ use Rattle.sr_cell.specs.declared.table.Table.{Table}
 use Rattle.sr_cell.specs.Cells.{Row}
 use Rattle.sr_cell.specs.Columns.{table_at}
 use Rattle.sr_box.specs.Points.{Rect, times, rect_fits}
-use Rattle.sr_union.specs.Grid.{grid, AreCutFrom, have_first}
+use Rattle.sr_box.specs.Corners.{have_first}
+use Rattle.sr_union.specs.Grid.{grid, AreCutFrom}
 use Rattle.sr_union.proofs.Times.{times-append}
 use Rattle.sr_union.proofs.Among.{AreCutFrom-append}
 use Rattle.sr_union.proofs.Count.{length-grid}

@@ -11,7 +11,7 @@ use Rattle.sr_cell.specs.Cells.{Row}
 use Rattle.sr_cell.specs.Columns.{table_at, is_point}
 use Rattle.sr_cell.specs.Attrs.{includes}
 use Rattle.sr_box.specs.Points.{Rect, in_any, times, HasPoint}
-use Rattle.sr_union.specs.Grid.{have_first}
+use Rattle.sr_box.specs.Corners.{have_first}
 use Rattle.sr_union.proofs.Times.{in_any-times}
 use Rattle.sr_union.proofs.Once.{in_any-append}
 use Rattle.sr_union.proofs.Low.{has_point}

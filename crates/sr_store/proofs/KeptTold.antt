@@ -9,9 +9,8 @@ use Rattle.sr_cell.specs.declared.table.Table.{Table}
 use Rattle.sr_cell.specs.Attrs.{has_column, project_from}
 use Rattle.sr_cell.specs.Cells.{Row}
 use Rattle.sr_cell.specs.Columns.{table_at, is_point, in_column}
-use Rattle.sr_box.specs.Corners.{first_value}
+use Rattle.sr_box.specs.Corners.{first_value, have_first}
 use Rattle.sr_box.specs.Points.{Rect, times, rect_fits, constrains_only}
-use Rattle.sr_union.specs.Grid.{have_first}
 use Rattle.sr_union.proofs.Times.{in_any-times}
 use Rattle.sr_history.specs.declared.mark.Mark.{Mark}
 use Rattle.sr_history.specs.Marks.{attrs_of, is_held}

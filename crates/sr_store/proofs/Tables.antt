@@ -6,7 +6,8 @@ use Rattle.sr_cell.specs.declared.table.Column.{Column}
 use Rattle.sr_cell.specs.declared.table.Table.{Table}
 use Rattle.sr_cell.specs.Names.{is_bad_domain, bad_domain_from}
 use Rattle.sr_cell.specs.Columns.{table_at}
-use Rattle.sr_union.specs.Grid.{all_inner, have_first}
+use Rattle.sr_box.specs.Corners.{have_first}
+use Rattle.sr_union.specs.Grid.{all_inner}
 use Rattle.sr_union.proofs.Domains.{good-inner}
 use Rattle.sr_query.specs.Bound.{is_table}
 

@@ -2,7 +2,8 @@
 ghost use Rattle.std.specs.Prelude.{◌≡◌, ◌<◌, true, IsTrue, length};
 ghost use Rattle.std.specs.List.{list_all};
 ghost use Rattle.sr_cell.specs.Columns.{table_at};
-ghost use Rattle.sr_union.specs.Grid.{all_inner, have_first};
+ghost use Rattle.sr_box.specs.Corners.{have_first};
+ghost use Rattle.sr_union.specs.Grid.{all_inner};
 ghost use Rattle.sr_query.specs.Bound.{is_table};
 
 use sr_cell::schema::Schema;

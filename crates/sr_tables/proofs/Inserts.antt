@@ -6,7 +6,7 @@ use Rattle.std.proofs.lemmas.Int.{ints}
 use Rattle.std.proofs.lemmas.List.{drop_all, length-map}
 use Rattle.std.proofs.lemmas.Bool.Decides.{nat_tests}
 use Rattle.sr_cell.specs.declared.cell.Cell.{Cell}
-use Rattle.sr_cell.specs.declared.cell.Cell.TheVariants.{Num, Str}
+use Rattle.sr_cell.specs.declared.cell.Cell.TheVariants.{Num, Str, Null}
 use Rattle.sr_cell.specs.declared.table.Kind.{Kind}
 use Rattle.sr_cell.specs.declared.table.Kind.TheVariants.{Num as Numbers, Str as Texts}
 use Rattle.sr_cell.specs.declared.table.Column.{Column}
@@ -102,11 +102,15 @@ inserted-by table more rows =
 
 -- rows that fit
 
-pub fits-kind : (kind : Kind) (low high : ℤ) (c : ℕ) (v : Cell) → cell_fault kind low high c v ≡ None → takes_kind kind low high v ≡ true
-fits-kind Numbers low high c (Num n) h = grind arith
-fits-kind Numbers low high c (Str s) h = absurd (cc)
-fits-kind Texts low high c (Num n) h = absurd (cc)
-fits-kind Texts low high c (Str s) h = grind (arith, nat_tests)
+pub fits-kind : (kind : Kind) (low high : ℤ) (nullable : Bool) (c : ℕ) (v : Cell) → cell_fault kind low high nullable c v ≡ None → takes_kind kind low high nullable v ≡ true
+fits-kind Numbers low high nullable c (Num n) h = grind arith
+fits-kind Numbers low high nullable c (Str s) h = absurd (cc)
+fits-kind Numbers low high true c Null h = refl
+fits-kind Numbers low high false c Null h = absurd (cc)
+fits-kind Texts low high nullable c (Num n) h = absurd (cc)
+fits-kind Texts low high nullable c (Str s) h = grind (arith, nat_tests)
+fits-kind Texts low high true c Null h = refl
+fits-kind Texts low high false c Null h = absurd (cc)
 
 pub first_fault-none : (one other : Option Fault) → first_fault one other ≡ None → (one ≡ None) × (other ≡ None)
 first_fault-none (Some fault) other h = absurd (cc)
@@ -117,26 +121,31 @@ fits-cells c [] [] h wide = refl
 fits-cells c [] (v ∷ row) h wide = absurd (omega arith)
 fits-cells c (column ∷ columns) [] h wide = absurd (omega arith)
 fits-cells c (column ∷ columns) (v ∷ row) h wide =
-    let two = first_fault-none (cell_fault column.kind column.lo column.hi c v) (bad_cell_from (c + 1) columns row) h in
-    let one = fits-kind column.kind column.lo column.hi c v two.0 in
+    let two = first_fault-none (cell_fault column.kind column.lo column.hi column.nullable c v) (bad_cell_from (c + 1) columns row) h in
+    let one = fits-kind column.kind column.lo column.hi column.nullable c v two.0 in
     let ih = fits-cells (c + 1) columns row two.1 (omega arith) in
     grind (arith, one, ih)
 
 -- cells of one kind are in order
-in_order : (kind : Kind) (low high : ℤ) (v w : Cell) → takes_kind kind low high v ≡ true → takes_kind kind low high w ≡ true → (cell_le v w || cell_le w v) ≡ true
-in_order Numbers low high (Num n) (Num m) h k = grind (arith, ints)
-in_order Numbers low high (Num n) (Str s) h k = absurd (cc)
-in_order Numbers low high (Str s) w h k = absurd (cc)
-in_order Texts low high (Num n) w h k = absurd (cc)
-in_order Texts low high (Str s) (Num m) h k = absurd (cc)
-in_order Texts low high (Str s) (Str t) h k = text_le-total s t
+in_order : (kind : Kind) (low high : ℤ) (nullable : Bool) (v w : Cell) → takes_kind kind low high nullable v ≡ true → takes_kind kind low high nullable w ≡ true → (cell_le v w || cell_le w v) ≡ true
+in_order Numbers low high nullable (Num n) (Num m) h k = grind (arith, ints)
+in_order Numbers low high nullable (Num n) (Str s) h k = absurd (cc)
+in_order Numbers low high nullable (Str s) w h k = absurd (cc)
+in_order Texts low high nullable (Num n) w h k = absurd (cc)
+in_order Texts low high nullable (Str s) (Num m) h k = absurd (cc)
+in_order Texts low high nullable (Str s) (Str t) h k = text_le-total s t
+in_order Numbers low high nullable (Num n) Null h k = refl
+in_order Texts low high nullable (Str s) Null h k = refl
+in_order kind low high nullable Null (Num m) h k = refl
+in_order kind low high nullable Null (Str t) h k = refl
+in_order kind low high nullable Null Null h k = refl
 
 pub keys_in_order : (columns : List Column) (key : ℕ) (r s : Row) → key < length columns → fits_columns columns r ≡ true → fits_columns columns s ≡ true
     → (cell_le (cell_at r key) (cell_at s key) || cell_le (cell_at s key) (cell_at r key)) ≡ true
 keys_in_order [] key r s below h k = absurd (omega arith)
 keys_in_order (c ∷ columns) key [] s below h k = absurd (cc)
 keys_in_order (c ∷ columns) key (v ∷ r) [] below h k = absurd (cc)
-keys_in_order (c ∷ columns) zero (v ∷ r) (w ∷ s) below h k = in_order c.kind c.lo c.hi v w (grind arith) (grind arith)
+keys_in_order (c ∷ columns) zero (v ∷ r) (w ∷ s) below h k = in_order c.kind c.lo c.hi c.nullable v w (grind arith) (grind arith)
 keys_in_order (c ∷ columns) (suc key) (v ∷ r) (w ∷ s) below h k = keys_in_order columns key r s (omega arith) (grind arith) (grind arith)
 
 pub apart-fits : (columns : List Column) (key : ℕ) (rows : List Row) (row : Row) → key < length columns → list_all (λ r. fits_columns columns r) rows ≡ true → fits_columns columns row ≡ true

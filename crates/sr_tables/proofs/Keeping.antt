@@ -41,7 +41,7 @@ same_keyed k key kind rows a b c =
 -- a row that fits has a key of the rows' kind
 pub key-kind : (t : Table) (k : Keyed) (row : Row) → IsKeyed t k → t.key < length t.columns → fits_columns t.columns row ≡ true → is_of k.kind (cell_at row k.key) ≡ true
 key-kind t k row keyed below fits =
-    let is = fits-kind_of t.columns t.key row (record { name = []; kind = Texts; lo = pos 0; hi = pos 0 }) below fits in
+    let is = fits-kind_of t.columns t.key row (record { name = []; kind = Texts; lo = pos 0; hi = pos 0; nullable = false }) below fits in
     let key = keyed.key in
     let kind = keyed.kind in
     cc

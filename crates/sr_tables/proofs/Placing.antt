@@ -51,9 +51,9 @@ with_places-fits t [] row none h = h
 with_places-fits t (p ∷ places) row none h =
     let two = first_fault-none (place_fault t p) (places_fault t places) none in
     let column = column_of t p.column in
-    let takes = fits-kind column.kind column.lo column.hi p.column p.value two.0 in
+    let takes = fits-kind column.kind column.lo column.hi column.nullable p.column p.value two.0 in
     with_places-fits t places (slice_set row p.column p.value) two.1
-    (fits-set t.columns row p.column p.value (record { name = []; kind = Texts; lo = pos 0; hi = pos 0 }) h takes)
+    (fits-set t.columns row p.column p.value (record { name = []; kind = Texts; lo = pos 0; hi = pos 0; nullable = false }) h takes)
 
 pub updated_row-fits : (t : Table) (places : List Place) (c : Option Cond) (row : Row) → places_fault t places ≡ None → fits_columns t.columns row ≡ true
     → fits_columns t.columns (updated_row places c row) ≡ true

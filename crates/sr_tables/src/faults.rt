@@ -12,9 +12,18 @@ use sr_keyed::keyed::KeyedRows;
 
 /// Why a value can't stand in its column, whose number is `at`.
 pub(crate) fn fault_of_cell(column: &Column, cell: &Cell, at: u32) -> Option<Fault>
-    ensures { result ≡ cell_fault column.now.kind column.now.lo column.now.hi at cell.now }
+    ensures { result ≡ cell_fault column.now.kind column.now.lo column.now.hi column.now.nullable at cell.now }
 {
     match (column.kind, cell) {
+        (_, Cell::Null) => {
+            if column.nullable {
+                return None;
+            }
+            return Some(Fault {
+                why: Why::NullCell,
+                at,
+            });
+        }
         (Kind::Num, Cell::Num(number)) => {
             if column.lo <= *number && *number <= column.hi {
                 return None;

@@ -56,6 +56,7 @@ fn low_of(alloc: Global, span: &Span) -> Option<Cell>
         Span::Full => None,
         Span::Nums { lo, .. } => end_at(*lo),
         Span::Strs { lo, .. } => text_of(alloc, lo.as_slice()),
+        Span::Null => Some(Cell::Null),
     }
 }
 
@@ -67,6 +68,7 @@ fn high_of(alloc: Global, span: &Span) -> Option<Cell>
         Span::Full => None,
         Span::Nums { hi, .. } => end_at(*hi),
         Span::Strs { hi, .. } => end_of(alloc, hi),
+        Span::Null => Some(Cell::Null),
     }
 }
 

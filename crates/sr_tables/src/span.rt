@@ -4,7 +4,8 @@ ghost use Rattle.std.specs.Option.{option_copied};
 ghost use Rattle.sr_cell.specs.declared.cell.Cell.{Cell as TheCell};
 ghost use Rattle.sr_cell.specs.Cells.{Row as TheRow, cell_at};
 ghost use Rattle.sr_cell.specs.Columns.{fits_columns};
-ghost use Rattle.sr_model.specs.Conditions.{passes, is_true, all_true};
+ghost use Rattle.sr_model.specs.Conditions.{And, passes, is_true};
+ghost use Rattle.sr_model.specs.Sides.{all_true};
 ghost use Rattle.sr_model.specs.Statements.{meets};
 ghost use Rattle.sr_query.specs.Binding.{cond_of, compared};
 ghost use Rattle.sr_query.specs.Meant.{meant, members, test_meant};
@@ -22,7 +23,7 @@ fn of_kind(cell: &Cell, kind: Kind) -> Option<&Cell>
     ensures { option_copied result ≡ (if is_of kind cell.now then Some cell.now else None) }
 {
     match (kind, cell) {
-        (Kind::Num, Cell::Num(_)) | (Kind::Str, Cell::Str(_)) => Some(cell),
+        (Kind::Num, Cell::Num(_)) | (Kind::Str, Cell::Str(_)) | (_, Cell::Null) => Some(cell),
         _ => None,
     }
 }
@@ -53,7 +54,7 @@ fn low_tested(test: &Test, kind: Kind) -> Option<&Cell>
     match test {
         Test::Compared(op, value) => low_compared(*op, value, kind),
         Test::Between(low, _) => Some(low),
-        Test::OneOf(_) | Test::Prefix(_) => None,
+        Test::OneOf(_) | Test::Prefix(_) | Test::IsNull => None,
     }
 }
 
@@ -63,7 +64,7 @@ fn high_tested(test: &Test, kind: Kind) -> Option<&Cell>
     match test {
         Test::Compared(op, value) => high_compared(*op, value, kind),
         Test::Between(_, high) => Some(high),
-        Test::OneOf(_) | Test::Prefix(_) => None,
+        Test::OneOf(_) | Test::Prefix(_) | Test::IsNull => None,
     }
 }
 
@@ -80,9 +81,17 @@ fn low_end(condition: &Condition, key: usize, kind: Kind) -> Option<&Cell>
                 None
             }
         }
-        Condition::And(all) => first_low(all, key, kind),
+        Condition::And(all) => low_of_all(all, key, kind),
         Condition::Or(_) | Condition::Not(_) => None,
     }
+}
+
+/// A lower end of the keys of the rows that an AND of these is true of.
+#[cycle(condition)]
+fn low_of_all(all: &[Condition], key: usize, kind: Kind) -> Option<&Cell>
+    ensures { (row : TheRow) → is_of kind (cell_at row key) ≡ true → is_true (cell_at row) (And (members all.now)) ≡ true → is_from (option_copied result) (cell_at row key) ≡ true }
+{
+    first_low(all, key, kind)
 }
 
 /// The first lower end of the members of an AND.
@@ -112,9 +121,17 @@ fn high_end(condition: &Condition, key: usize, kind: Kind) -> Option<&Cell>
                 None
             }
         }
-        Condition::And(all) => first_high(all, key, kind),
+        Condition::And(all) => high_of_all(all, key, kind),
         Condition::Or(_) | Condition::Not(_) => None,
     }
+}
+
+/// An upper end of the keys of the rows that an AND of these is true of.
+#[cycle(upper)]
+fn high_of_all(all: &[Condition], key: usize, kind: Kind) -> Option<&Cell>
+    ensures { (row : TheRow) → is_of kind (cell_at row key) ≡ true → is_true (cell_at row) (And (members all.now)) ≡ true → is_up_to (option_copied result) (cell_at row key) ≡ true }
+{
+    first_high(all, key, kind)
 }
 
 /// The first upper end of the members of an AND.

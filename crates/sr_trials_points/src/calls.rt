@@ -1,13 +1,16 @@
 //! Calls that no script makes, each once, at values worked out by hand.
 ghost use Rattle.std.specs.Prelude.{◌≡◌, pos, true, IfOk};
-ghost use Rattle.sr_union.specs.Grid.{all_inner, have_first};
+ghost use Rattle.sr_box.specs.Corners.{have_first};
+ghost use Rattle.sr_union.specs.Grid.{all_inner};
 
-use crate::common::{column, other_text, rects_of, table_of};
+use crate::common::{column, list_of, other_text, rects_of, table_of};
 use sr_box::span::Span;
+use sr_cell::cell::Cell;
 use sr_cell::fault::Fault;
 use sr_cell::list::{Copied, No, NoMemory};
 use sr_cell::schema::Schema;
-use sr_cell::table::Table;
+use sr_cell::table::{Column, Kind, Table};
+use sr_cell::text::Text;
 use sr_script::line::TraceLine;
 use sr_union::rects::Rects;
 use std::alloc::Global;
@@ -44,6 +47,49 @@ fn rects_around(alloc: Global) -> Result<Option<usize>, NoMemory> {
 #[test]
 fn a_difference_has_its_rects(rt: HostRuntime) {
     assert_eq!(rt; rects_around(rt.alloc()), Ok(Some(2)));
+}
+
+// Numbers from 0 to 9, and others of which each may be NULL.
+fn pairs(alloc: Global) -> Result<Table, NoMemory>
+    ensures inner { IfOk result (λ table. all_inner table.columns ≡ true) }
+    ensures first { IfOk result (λ table. have_first table.columns ≡ true) }
+{
+    let id = column(alloc, "id", 9)?;
+    let a = Column {
+        name: Text::of(alloc, "a")?,
+        kind: Kind::Num,
+        lo: 0,
+        hi: 9,
+        nullable: true,
+    };
+    table_of(alloc, "n", [id, a])
+}
+
+fn has_pair(alloc: Global, rects: &Rects, a: Cell) -> Result<bool, NoMemory> {
+    Ok(rects.has(&list_of(alloc, [Cell::Num(7), a])?))
+}
+
+// Whether one rect is left of all pairs without those with a number, and it has those with a NULL.
+fn null_is_left(alloc: Global) -> Result<bool, NoMemory> {
+    let table = pairs(alloc)?;
+    let all = rects_of(alloc, [Span::Full, Span::Full])?;
+    let numbers = rects_of(alloc, [Span::Full, Span::Nums { lo: 0, hi: 9 }])?;
+    if !all.fits(&table) || !numbers.fits(&table) {
+        return Ok(false);
+    }
+    match all.minus(alloc, &numbers, &table, 100) {
+        Ok(left) => Ok(
+            left.len() == 1
+                && has_pair(alloc, &left, Cell::Null)?
+                && !has_pair(alloc, &left, Cell::Num(9))?,
+        ),
+        Err(_) => Ok(false),
+    }
+}
+
+#[test]
+fn all_without_the_numbers_is_null(rt: HostRuntime) {
+    assert!(rt; null_is_left(rt.alloc()) == Ok(true));
 }
 
 // The place of the table in a copy of a schema that has it alone.

@@ -1,5 +1,5 @@
 //! What tests of several libraries need.
-ghost use Rattle.std.specs.Prelude.{◌≡◌, pos, [], ◌∷◌, IfOk};
+ghost use Rattle.std.specs.Prelude.{◌≡◌, false, pos, [], ◌∷◌, IfOk};
 ghost use Rattle.sr_cell.specs.declared.table.Kind.TheVariants.{Num as Numbers};
 ghost use Rattle.sr_box.specs.declared.span.Span.TheVariants.{Full, Nums};
 
@@ -48,13 +48,14 @@ pub fn rects_of<const N: usize>(alloc: Global, spans: [Span; N]) -> Result<Rects
 
 /// A column of the numbers up to `hi`.
 pub fn column(alloc: Global, name: &str, hi: i64) -> Result<Column, NoMemory>
-    ensures { IfOk result (λ column. (column.kind ≡ Numbers) × (column.lo ≡ pos 0) × (column.hi ≡ hi)) }
+    ensures { IfOk result (λ column. (column.kind ≡ Numbers) × (column.lo ≡ pos 0) × (column.hi ≡ hi) × (column.nullable ≡ false)) }
 {
     Ok(Column {
         name: Text::of(alloc, name)?,
         kind: Kind::Num,
         lo: 0,
         hi,
+        nullable: false,
     })
 }
 

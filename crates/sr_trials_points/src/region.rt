@@ -5,7 +5,8 @@ ghost use Rattle.sr_cell.specs.Columns.{is_point};
 ghost use Rattle.sr_model.specs.SortedRows.{ascend, with_row};
 ghost use Rattle.sr_rows.specs.Places.{is_apart};
 ghost use Rattle.sr_box.specs.declared.span.Span.TheVariants.{Full, Nums};
-ghost use Rattle.sr_union.specs.Grid.{all_inner, have_first};
+ghost use Rattle.sr_box.specs.Corners.{have_first};
+ghost use Rattle.sr_union.specs.Grid.{all_inner};
 ghost use Rattle.sr_region.specs.Regions.{rank, IsRowIn, IsRegion};
 
 use crate::common::{ages, column, list_of, rects_of, table_of};

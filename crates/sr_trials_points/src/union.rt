@@ -2,7 +2,8 @@
 ghost use Rattle.std.specs.Prelude.{◌≡◌, true, IfOk, IfSome};
 ghost use Rattle.std.specs.List.{list_all};
 ghost use Rattle.sr_box.specs.Points.{rect_fits};
-ghost use Rattle.sr_union.specs.Grid.{all_inner, have_first};
+ghost use Rattle.sr_box.specs.Corners.{have_first};
+ghost use Rattle.sr_union.specs.Grid.{all_inner};
 
 use crate::common::{column, list_of, rect_of, table_of};
 use sr_box::prefix::next_prefix;
@@ -27,6 +28,7 @@ fn employees(alloc: Global) -> Result<Table, NoMemory>
         kind: Kind::Str,
         lo: 0,
         hi: 0,
+        nullable: false,
     };
     let age = column(alloc, "age", 150)?;
     let dept = column(alloc, "dept", 99)?;

@@ -89,13 +89,15 @@ fn are(sent: &[Message], wanted: Wanted) -> bool {
 
 // A column of any numbers.
 fn numbers(alloc: Global, name: &str) -> Result<Column, NoMemory>
-    ensures { IfOk result (λ column. is_bad_domain column ≡ false) }
+    ensures good { IfOk result (λ column. is_bad_domain column ≡ false) }
+    ensures never { IfOk result (λ column. column.nullable ≡ false) }
 {
     Ok(Column {
         name: Text::of(alloc, name)?,
         kind: Kind::Num,
         lo: -1099511627776,
         hi: 1099511627775,
+        nullable: false,
     })
 }
 

@@ -27,6 +27,7 @@ fn number_column(alloc: Global, name: &str) -> Result<Column, NoMemory> {
         kind: Kind::Num,
         lo: -1_099_511_627_776,
         hi: 1_099_511_627_775,
+        nullable: false,
     })
 }
 

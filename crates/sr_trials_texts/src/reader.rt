@@ -1,9 +1,13 @@
 //! Lines and scripts, by value.
-use sr_cell::list::No;
+use crate::common::list_of;
+use sr_cell::cell::{Cell, Row};
+use sr_cell::list::{No, NoMemory};
 use sr_reader::events::read_events;
 use sr_reader::head::created;
 use sr_reader::line::read_line;
 use sr_reader::lines::read_lines;
+use sr_reader::meaning::query_of;
+use sr_union::rects::Rects;
 use std::alloc::Global;
 
 // Lines, how many clients there are, and the place of the line's fault, if it has one.
@@ -102,4 +106,51 @@ fn scripts_are_read(rt: HostRuntime) {
     for (script, wanted) in &SCRIPTS {
         assert_eq!(rt; reading(rt.alloc(), script), *wanted);
     }
+}
+
+// A table with NULL, and a query that no row with a NULL meets.
+const NULLS: &[u8] =
+    b"CREATE TABLE n (id INT PRIMARY KEY CHECK (id BETWEEN 0 AND 9), a INT NULL CHECK (a BETWEEN 0 AND 9))";
+
+const NOT_BELOW: &str = "SELECT id FROM n WHERE NOT (a < 6 OR a IS NULL)";
+
+fn row_of(alloc: Global, a: Cell) -> Result<Row, NoMemory> {
+    list_of(alloc, [Cell::Num(0), a])
+}
+
+// Whether the rects have just the rows whose `a` is from 6 to 9.
+fn are_from_6(alloc: Global, rects: &Rects) -> Result<bool, NoMemory> {
+    for number in 0..10 {
+        if rects.has(&row_of(alloc, Cell::Num(number))?) != (6 <= number) {
+            return Ok(false);
+        }
+    }
+    Ok(!rects.has(&row_of(alloc, Cell::Null)?))
+}
+
+// Whether the query over the tables of these lines has just those rows.
+fn asks_from_6(alloc: Global, bytes: &[u8], sql: &str) -> Result<bool, NoMemory> {
+    if 1000 < bytes.len() {
+        return Ok(false);
+    }
+    let lines = match read_lines(alloc, 1, bytes) {
+        Ok(lines) => lines,
+        Err(_) => return Ok(false),
+    };
+    let schema = match created(alloc, &lines) {
+        Ok(schema) => schema,
+        Err(_) => return Ok(false),
+    };
+    match query_of(alloc, &schema, sql)? {
+        Ok(query) => match query.parts.as_slice() {
+            [part] => are_from_6(alloc, &part.rects),
+            _ => Ok(false),
+        },
+        Err(_) => Ok(false),
+    }
+}
+
+#[test]
+fn not_of_unknown_is_no_row(rt: HostRuntime) {
+    assert!(rt; asks_from_6(rt.alloc(), NULLS, NOT_BELOW) == Ok(true));
 }

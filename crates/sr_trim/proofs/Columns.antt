@@ -12,7 +12,7 @@ use Rattle.sr_cell.specs.declared.table.Column.{Column}
 use Rattle.sr_cell.specs.Attrs.{has_column}
 use Rattle.sr_cell.specs.Cells.{Row}
 use Rattle.sr_cell.specs.Columns.{is_point}
-use Rattle.sr_box.specs.declared.span.Span.TheVariants.{Full, Nums, Strs}
+use Rattle.sr_box.specs.declared.span.Span.TheVariants.{Full, Nums, Strs, Null}
 use Rattle.sr_box.specs.Points.{Rect, in_rect, in_any, constrains, constrained, constrains_only, IsEssential}
 use Rattle.sr_union.specs.Free.{span_at}
 use Rattle.sr_union.proofs.Free.{constrained-is}
@@ -72,6 +72,7 @@ one_same [] (suc c) (w ∷ p) v h = refl
 one_same (Full ∷ r) zero (w ∷ p) v h = refl
 one_same (Nums lo hi ∷ r) zero (w ∷ p) v h = absurd (grind arith)
 one_same (Strs lo hi ∷ r) zero (w ∷ p) v h = absurd (grind arith)
+one_same (Null ∷ r) zero (w ∷ p) v h = absurd (grind arith)
 one_same (s ∷ r) (suc c) (w ∷ p) v h = let ih = one_same r c p v h in grind (arith, ih)
 
 any_same : (rects : List Rect) (c : ℕ) (p : Row) (v : Cell) → is_constrained c rects ≡ false → in_any rects (slice_set p c v) ≡ in_any rects p
@@ -125,6 +126,9 @@ only_one attrs n (Nums lo hi ∷ r) h =
     let first : has_column attrs n ≡ true = subst (λ m. has_column attrs m ≡ true) (omega arith) (h 0 refl) in
     let ih = only_one attrs (n + 1) r (λ k e. subst (λ m. has_column attrs m ≡ true) (omega arith) (h (suc k) e)) in grind (arith, first, ih)
 only_one attrs n (Strs lo hi ∷ r) h =
+    let first : has_column attrs n ≡ true = subst (λ m. has_column attrs m ≡ true) (omega arith) (h 0 refl) in
+    let ih = only_one attrs (n + 1) r (λ k e. subst (λ m. has_column attrs m ≡ true) (omega arith) (h (suc k) e)) in grind (arith, first, ih)
+only_one attrs n (Null ∷ r) h =
     let first : has_column attrs n ≡ true = subst (λ m. has_column attrs m ≡ true) (omega arith) (h 0 refl) in
     let ih = only_one attrs (n + 1) r (λ k e. subst (λ m. has_column attrs m ≡ true) (omega arith) (h (suc k) e)) in grind (arith, first, ih)
 

@@ -11,7 +11,8 @@ use Rattle.sr_cell.specs.Columns.{is_point}
 use Rattle.sr_box.specs.Points.{Rect, in_any, times, rect_fits, constrained, IsEssential, HasPoint, HasNoPoint}
 use Rattle.sr_box.proofs.Essential.{essential-same}
 use Rattle.sr_union.specs.Pieces.{IsMinus, IsOnce, IsWithin, AllConstrainEssential}
-use Rattle.sr_union.specs.Grid.{AreCutFrom, grid, have_first}
+use Rattle.sr_box.specs.Corners.{have_first}
+use Rattle.sr_union.specs.Grid.{AreCutFrom, grid}
 use Rattle.sr_union.proofs.Times.{in_any-times}
 use Rattle.sr_union.proofs.Low.{has_point}
 use Rattle.sr_union.proofs.Among.{AreCutFrom-append}

@@ -1,24 +1,25 @@
 -- How many rects there can be: each has its low corner, a point of the grid.
 use Rattle.std.proofs.Common.{◌≡◌, ℕ, true, false, List, [], ◌∷◌, ◌++◌, ◌+◌, ◌*◌, ◌≤◌, length, refl, arith, ◌∙◌, ap}
-use Rattle.std.specs.Prelude.{Bool, ◌&&◌, ◌||◌, Some, None, if◌then◌else◌, ℤ, int_le, int_lt}
+use Rattle.std.specs.Prelude.{Bool, ◌&&◌, ◌||◌, Some, None, if◌then◌else◌, Option, ℤ, pos, ◌+ℤ◌, int_le, int_lt}
 use Rattle.std.specs.List.{list_any, list_all}
 use Rattle.std.proofs.lemmas.List.{length-append}
 use Rattle.std.proofs.lemmas.List.Folds.{list_all-append}
 use Rattle.std.proofs.lemmas.Int.{ints}
 use Rattle.sr_cell.specs.declared.cell.Cell.{Cell}
-use Rattle.sr_cell.specs.declared.cell.Cell.TheVariants.{Num, Str}
+use Rattle.sr_cell.specs.declared.cell.Cell.TheVariants.{Num, Str, Null as NullCell}
 use Rattle.sr_cell.specs.declared.table.Column.{Column}
 use Rattle.sr_cell.specs.declared.table.Kind.{Kind}
 use Rattle.sr_cell.specs.declared.table.Kind.TheVariants.{Num as Numbers, Str as Texts}
 use Rattle.sr_box.specs.declared.span.Span.{Span}
-use Rattle.sr_box.specs.declared.span.Span.TheVariants.{Full, Nums, Strs}
+use Rattle.sr_box.specs.declared.span.Span.TheVariants.{Full, Nums, Strs, Null}
 use Rattle.sr_cell.specs.Cells.{cell_eq}
-use Rattle.sr_cell.specs.Columns.{in_column, in_kind, is_point}
+use Rattle.sr_cell.specs.Columns.{are_bytes, in_column, in_kind, is_point}
 use Rattle.sr_cell.proofs.Order.{text_le-refl, cell_eq-sound, cell_eq-refl}
-use Rattle.sr_box.specs.Spans.{in_span, fits_kind}
+use Rattle.sr_box.specs.Spans.{in_span, end_bytes, fits_kind}
 use Rattle.sr_box.specs.Points.{in_rect, rect_fits, times}
-use Rattle.sr_box.specs.Corners.{cuts_of, first_value}
-use Rattle.sr_union.specs.Grid.{is_among, has_cut, first_cuts, others, distinct, grid, CutsAmong, AreCutFrom, have_first}
+use Rattle.sr_box.specs.Corners.{cuts_of, end_cut, first_value, have_first, null_cut, num_cut, text_cut}
+use Rattle.sr_union.proofs.Cuts.{cut-is, nums-cut}
+use Rattle.sr_union.specs.Grid.{is_among, has_cut, first_cuts, others, distinct, grid, CutsAmong, AreCutFrom}
 
 abbrev behind : Cell → List (List Cell) → List (List Cell)
 behind v [] = []
@@ -95,20 +96,29 @@ among-has s (v ∷ vs) w h k = go (cell_eq v w) refl h (among-has s vs w)
     go false e x ih = let z = ih x k in grind arith
 
 -- each span has one of the starts
-start-in : (k : Kind) (low high : ℤ) (s : Span) (vs : List Cell) → fits_kind k low high s ≡ true → ((v : Cell) → has_cut k low high s v ≡ true → is_among vs v ≡ true)
+start-in : (k : Kind) (low high : ℤ) (n : Bool) (s : Span) (vs : List Cell) → fits_kind k low high n s ≡ true → ((v : Cell) → has_cut k low high n s v ≡ true → is_among vs v ≡ true)
     → list_any (in_span s) (first_value k low ∷ distinct vs) ≡ true
-start-in k low high Full vs f h = refl
-start-in Numbers low high (Nums lo hi) vs f h = go (int_lt low lo) refl (h (Num lo))
+start-in k low high n Full vs f h = refl
+start-in Numbers low high n (Nums lo hi) vs f h = go (int_lt low lo) refl (λ e. h (Num lo) (let x = nums-cut low high lo hi (Num lo) in let y = cut-is Numbers low high n (Nums lo hi) (Num lo) in grind (arith, x, y, e, cell_eq-refl (Num lo))))
   where
-    go : (b : Bool) → int_lt low lo ≡ b → (has_cut Numbers low high (Nums lo hi) (Num lo) ≡ true → is_among vs (Num lo) ≡ true) → ((int_le lo low && int_le low hi) || list_any (in_span (Nums lo hi)) (distinct vs)) ≡ true
-    go true e k = let x = k (rw e (grind (arith, cell_eq-refl (Num lo)))) in let y = among-has (Nums lo hi) (distinct vs) (Num lo) (distinct-among vs (Num lo) ∙ x) (grind (arith, ints)) in grind arith
+    go : (b : Bool) → int_lt low lo ≡ b → (int_lt low lo ≡ true → is_among vs (Num lo) ≡ true) → ((int_le lo low && int_le low hi) || list_any (in_span (Nums lo hi)) (distinct vs)) ≡ true
+    go true e k = let x = k e in let y = among-has (Nums lo hi) (distinct vs) (Num lo) (distinct-among vs (Num lo) ∙ x) (grind (arith, ints)) in grind arith
     go false e k = grind (arith, ints)
-start-in Texts low high (Nums lo hi) vs f h = absurd (grind arith)
-start-in Numbers low high (Strs lo hi) vs f h = absurd (grind arith)
-start-in Texts low high (Strs [] hi) vs f h = grind arith
-start-in Texts low high (Strs (b ∷ lo) hi) vs f h =
-    let x = h (Str (b ∷ lo)) (grind (arith, cell_eq-refl (Str (b ∷ lo)))) in
-    let y = among-has (Strs (b ∷ lo) hi) (distinct vs) (Str (b ∷ lo)) (distinct-among vs (Str (b ∷ lo)) ∙ x) (grind (arith, text_le-refl (b ∷ lo))) in grind arith
+start-in Texts low high n (Nums lo hi) vs f h = absurd (grind arith)
+start-in Numbers low high n (Strs lo hi) vs f h = absurd (grind arith)
+start-in Texts low high n (Strs [] hi) vs f h = grind arith
+start-in Texts low high n (Strs (b ∷ lo) hi) vs f h =
+    let y = cut-is Texts low high n (Strs (b ∷ lo) hi) (Str (b ∷ lo)) in
+    let x = h (Str (b ∷ lo)) (grind (arith, y, cell_eq-refl (Str (b ∷ lo)))) in
+    let z = among-has (Strs (b ∷ lo) hi) (distinct vs) (Str (b ∷ lo)) (distinct-among vs (Str (b ∷ lo)) ∙ x) (grind (arith, text_le-refl (b ∷ lo))) in grind arith
+start-in k low high true Null vs f h =
+    let x = h NullCell (null_cuts k) in let z = among-has Null (distinct vs) NullCell (distinct-among vs NullCell ∙ x) refl in grind (arith, z)
+  where
+    null_cuts : (k : Kind) → has_cut k low high true Null NullCell ≡ true
+    null_cuts Numbers = refl
+    null_cuts Texts = refl
+start-in Numbers low high false Null vs f h = absurd (grind arith)
+start-in Texts low high false Null vs f h = absurd (grind arith)
 
 held-corners : (cs : List Column) (given : List (List Span)) (r : List Span) → rect_fits cs r ≡ true → CutsAmong cs r given → 1 ≤ held r (corners cs given)
 held-corners [] given [] f h = omega arith
@@ -116,7 +126,7 @@ held-corners [] given (s ∷ r) f h = absurd (grind arith)
 held-corners (c ∷ cs) given [] f h = absurd (grind arith)
 held-corners (c ∷ cs) given (s ∷ r) f h =
     let ih = held-corners cs (others given) r (grind arith) h.1 in
-    let x = held-crossed s r (starts c given) (corners cs (others given)) (start-in c.kind c.lo c.hi s (first_cuts c given) (grind arith) h.0) in omega (arith, ih, x)
+    let x = held-crossed s r (starts c given) (corners cs (others given)) (start-in c.kind c.lo c.hi c.nullable s (first_cuts c given) (grind arith) h.0) in omega (arith, ih, x)
 
 total-more : (r : List Span) (rs : List (List Span)) (ps : List (List Cell)) → total (r ∷ rs) ps ≡ held r ps + total rs ps
 total-more r rs [] = refl
@@ -141,22 +151,42 @@ crossed-points c cs (v ∷ vs) ps h k =
     let ih = crossed-points c cs vs ps (grind arith) k in let x = behind-points c cs v ps (grind arith) k in
     list_all-append (is_point (c ∷ cs)) (behind v ps) (crossed vs ps) ∙ grind (arith, ih, x)
 
-cuts-in : (k : Kind) (low high : ℤ) (s : Span) → fits_kind k low high s ≡ true → list_all (in_kind k low high) (cuts_of k low high s) ≡ true
-cuts-in Numbers low high Full f = refl
-cuts-in Texts low high Full f = refl
-cuts-in Numbers low high (Nums lo hi) f = grind (arith, ints)
-cuts-in Texts low high (Nums lo hi) f = refl
-cuts-in Numbers low high (Strs lo hi) f = refl
-cuts-in Texts low high (Strs [] None) f = refl
-cuts-in Texts low high (Strs [] (Some hi)) f = grind arith
-cuts-in Texts low high (Strs (b ∷ lo) None) f = grind arith
-cuts-in Texts low high (Strs (b ∷ lo) (Some hi)) f = grind arith
+null_cuts-in : (k : Kind) (low high : ℤ) (n : Bool) → list_all (in_kind k low high n) (null_cut n) ≡ true
+null_cuts-in k low high false = refl
+null_cuts-in Numbers low high true = refl
+null_cuts-in Texts low high true = refl
+
+cuts-in : (k : Kind) (low high : ℤ) (n : Bool) (s : Span) → fits_kind k low high n s ≡ true → list_all (in_kind k low high n) (cuts_of k low high n s) ≡ true
+cuts-in Numbers low high n Full f = refl
+cuts-in Texts low high n Full f = refl
+cuts-in Numbers low high n (Nums lo hi) f =
+    let x = list_all-append (in_kind Numbers low high n) (null_cut n) (num_cut (int_lt low lo) lo ++ num_cut (int_lt hi high) (hi +ℤ pos 1)) in let y = null_cuts-in Numbers low high n in
+    x ∙ rw y (numbers (int_lt low lo) refl (int_lt hi high) refl)
+  where
+    numbers : (a : Bool) → int_lt low lo ≡ a → (b : Bool) → int_lt hi high ≡ b → list_all (in_kind Numbers low high n) (num_cut a lo ++ num_cut b (hi +ℤ pos 1)) ≡ true
+    numbers true d true e = grind (arith, ints)
+    numbers true d false e = grind (arith, ints)
+    numbers false d true e = grind (arith, ints)
+    numbers false d false e = refl
+cuts-in Texts low high n (Nums lo hi) f = refl
+cuts-in Numbers low high n (Strs lo hi) f = refl
+cuts-in Texts low high n (Strs lo hi) f =
+    let x = list_all-append (in_kind Texts low high n) (null_cut n) (text_cut lo ++ end_cut hi) in let y = null_cuts-in Texts low high n in
+    x ∙ rw y (texts lo hi (grind (arith, f)))
+  where
+    texts : (lo : List ℕ) (hi : Option (List ℕ)) → (are_bytes lo && end_bytes hi) ≡ true → list_all (in_kind Texts low high n) (text_cut lo ++ end_cut hi) ≡ true
+    texts [] None e = refl
+    texts [] (Some hi) e = grind arith
+    texts (b ∷ lo) None e = grind arith
+    texts (b ∷ lo) (Some hi) e = grind arith
+cuts-in Numbers low high n Null f = null_cuts-in Numbers low high n
+cuts-in Texts low high n Null f = null_cuts-in Texts low high n
 
 first_cuts-in : (c : Column) (cs : List Column) (given : List (List Span)) → list_all (rect_fits (c ∷ cs)) given ≡ true → list_all (in_column c) (first_cuts c given) ≡ true
 first_cuts-in c cs [] f = refl
 first_cuts-in c cs ([] ∷ given) f = absurd (grind arith)
-first_cuts-in c cs ((s ∷ r) ∷ given) f = let ih = first_cuts-in c cs given (grind arith) in let x = cuts-in c.kind c.lo c.hi s (grind arith) in
-    list_all-append (in_column c) (cuts_of c.kind c.lo c.hi s) (first_cuts c given) ∙ grind (arith, ih, x)
+first_cuts-in c cs ((s ∷ r) ∷ given) f = let ih = first_cuts-in c cs given (grind arith) in let x = cuts-in c.kind c.lo c.hi c.nullable s (grind arith) in
+    list_all-append (in_column c) (cuts_of c.kind c.lo c.hi c.nullable s) (first_cuts c given) ∙ grind (arith, ih, x)
 
 others-fit : (c : Column) (cs : List Column) (given : List (List Span)) → list_all (rect_fits (c ∷ cs)) given ≡ true → list_all (rect_fits cs) (others given) ≡ true
 others-fit c cs [] f = refl

@@ -7,10 +7,10 @@ use Rattle.sr_cell.specs.declared.table.Kind.{Kind}
 use Rattle.sr_cell.specs.declared.table.Kind.TheVariants.{Num as Numbers, Str as Texts}
 use Rattle.sr_cell.specs.Names.{is_bad_by, is_bad_domain, bad_domain_from}
 use Rattle.sr_cell.specs.Columns.{in_kind}
-use Rattle.sr_box.specs.Corners.{first_value}
-use Rattle.sr_union.specs.Grid.{is_inner_kind, all_inner, have_first}
+use Rattle.sr_box.specs.Corners.{first_value, have_first}
+use Rattle.sr_union.specs.Grid.{is_inner_kind, all_inner}
 
-kind-inner : (k : Kind) (c : Column) → is_bad_by k c ≡ false → (is_inner_kind k c.lo c.hi ≡ true) × (in_kind k c.lo c.hi (first_value k c.lo) ≡ true)
+kind-inner : (k : Kind) (c : Column) → is_bad_by k c ≡ false → (is_inner_kind k c.lo c.hi ≡ true) × (in_kind k c.lo c.hi c.nullable (first_value k c.lo) ≡ true)
 kind-inner Numbers c good = (grind (arith, ints), grind (arith, ints))
 kind-inner Texts c good = (refl, refl)
 

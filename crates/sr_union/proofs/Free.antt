@@ -1,35 +1,32 @@
 -- Lists of rects without needless constraints.
-use Rattle.std.proofs.Common.{◌≡◌, ℕ, zero, suc, true, false, List, [], ◌∷◌, ◌++◌, ◌+◌, ◌*◌, ◌/◌, ◌%◌, ◌^◌, ◌<◌, ◌≤◌, ◌⊎◌, inl, inr, length, slice_index_or, refl, arith, ◌∙◌, sym, ap, subst}
-use Rattle.std.specs.Prelude.{Bool, ◌||◌, ◌==◌, slice_set, if◌then◌else◌, ℤ, pos, ◌+ℤ◌, int_lt, Some, None}
+use Rattle.std.proofs.Common.{◌≡◌, ℕ, zero, suc, true, false, List, [], ◌∷◌, ◌+◌, ◌*◌, ◌/◌, ◌%◌, ◌^◌, ◌<◌, ◌≤◌, ◌⊎◌, inl, inr, length, slice_index_or, refl, arith, ◌∙◌, sym, ap, subst}
+use Rattle.std.specs.Prelude.{Bool, ◌||◌, ◌==◌, slice_set, if◌then◌else◌, ℤ}
 use Rattle.std.specs.List.{list_all}
 use Rattle.std.proofs.Math.Nat.{pow-succ', div-div-eq-div-mul, add-mul-div_left, add-mul-mod_self_left, div-one}
 use Rattle.sr_cell.specs.declared.cell.Cell.{Cell}
-use Rattle.sr_cell.specs.declared.cell.Cell.TheVariants.{Num, Str}
 use Rattle.sr_cell.specs.declared.table.Kind.{Kind}
-use Rattle.sr_cell.specs.declared.table.Kind.TheVariants.{Num as Numbers, Str as Texts}
 use Rattle.sr_cell.specs.declared.table.Column.{Column}
 use Rattle.sr_cell.specs.Attrs.{has_column}
 use Rattle.sr_cell.specs.Cells.{Row}
 use Rattle.sr_cell.specs.Columns.{is_point}
 use Rattle.sr_box.specs.declared.span.Span.{Span}
-use Rattle.sr_box.specs.declared.span.Span.TheVariants.{Full, Nums, Strs}
+use Rattle.sr_box.specs.declared.span.Span.TheVariants.{Full, Nums, Strs, Null}
 use Rattle.sr_box.specs.Spans.{fits_kind}
 use Rattle.sr_box.specs.Points.{Rect, in_rect, in_any, rect_fits, constrains, constrained, IsEssential}
-use Rattle.sr_union.specs.Grid.{is_among, has_cut, first_cuts, others, CutsAmong, AreCutFrom, have_first}
+use Rattle.sr_union.specs.Grid.{is_among, has_cut, first_cuts, others, CutsAmong, AreCutFrom}
 use Rattle.sr_union.specs.Free.{free_all, span_at, is_free, IsSettled, IsNext, kept, essential, freed}
 use Rattle.sr_union.proofs.Low.{low_of, low-in}
 use Rattle.sr_union.proofs.Cuts.{is_among-append}
 use Rattle.sr_union.proofs.Inner.{fits_length}
 use Rattle.sr_union.proofs.Once.{are_self}
 use Rattle.sr_union.proofs.Parts.{are_fit}
-use Rattle.sr_box.specs.Corners.{num_cut, cuts_of}
+use Rattle.sr_box.specs.Corners.{cuts_of, have_first}
 use Rattle.sr_union.specs.Pieces.{HasOutside, IsWithin, ConstrainsEssential, AllConstrainEssential}
 use Rattle.std.proofs.lemmas.Bool.{cases_lt}
 use Rattle.sr_cell.proofs.Booleans.{same_tests}
-use Rattle.sr_cell.proofs.Order.{cell_eq-refl}
 use Rattle.sr_cell.proofs.ColumnSets.{has_column-none}
 use Rattle.sr_box.proofs.Essential.{essential-same}
-use Rattle.sr_union.proofs.SpanCuts.{no_cut-full}
+use Rattle.sr_union.proofs.SpanCuts.{no_cut-full, null_has_cut, numbers_cut, texts_cut}
 
 -- a point of a freed rect, and a point of the rect that differs in that column alone
 record Swapped (cs : List Column) (r : Rect) (c : ℕ) (p : Row) : Type 0 where
@@ -45,7 +42,7 @@ swapped [] r c p d f i h l = absurd (omega (arith, l))
 swapped (k ∷ cs) [] c p d f i h l = absurd (grind arith)
 swapped (k ∷ cs) (s ∷ r) c [] d f i h l = absurd (grind arith)
 swapped (k ∷ cs) (s ∷ r) zero (v ∷ p) d f i h l =
-    let low = low-in k.kind k.lo k.hi s (grind arith) (grind arith) in let a = low.0 in let b = low.1 in
+    let low = low-in k.kind k.lo k.hi k.nullable s (grind arith) (grind arith) in let a = low.0 in let b = low.1 in
     record { inside = low_of k.kind k.lo s ∷ p; other = v; in_it = grind (arith, a); point = grind (arith, b); back = refl }
 swapped (k ∷ cs) (s ∷ r) (suc c) (v ∷ p) d f i h l =
     let ih = swapped cs r c p (grind arith) (grind arith) (grind arith) (grind arith) (omega (arith, l)) in let a = ih.in_it in let b = ih.point in
@@ -128,7 +125,7 @@ free-fits (k ∷ cs) (s ∷ r) (suc c) f = let ih = free-fits cs r c (grind arit
 free-among : (cs : List Column) (r : Rect) (c : ℕ) (given : List Rect) → CutsAmong cs r given → CutsAmong cs (slice_set r c Full) given
 free-among [] r c given h = tt
 free-among (k ∷ cs) [] c given h = tt
-free-among (k ∷ cs) (s ∷ r) zero given h = ((λ v e. let n = no_cut-full k.kind k.lo k.hi v in absurd (grind (arith, e, n))), h.1)
+free-among (k ∷ cs) (s ∷ r) zero given h = ((λ v e. let n = no_cut-full k.kind k.lo k.hi k.nullable v in absurd (grind (arith, e, n))), h.1)
 free-among (k ∷ cs) (s ∷ r) (suc c) given h = (h.0, free-among cs r c (others given) h.1)
 
 pub free_all-are : (cs : List Column) (given rects : List Rect) (c : ℕ) → AreCutFrom cs given rects → AreCutFrom cs given (free_all c rects)
@@ -136,29 +133,22 @@ free_all-are cs given [] c h = tt
 free_all-are cs given (r ∷ rects) c h = (free-fits cs r c h.0, free-among cs r c given h.1, free_all-are cs given rects c h.2)
 
 -- a span of some values alone has a cut
-cut_constrains : (k : Kind) (low high : ℤ) (s : Span) → fits_kind k low high s ≡ true → ((v : Cell) → has_cut k low high s v ≡ true → ⊥) → constrains s ≡ false
-cut_constrains k low high Full f h = refl
-cut_constrains Numbers low high (Nums lo hi) f h = absurd (go (int_lt low lo) (int_lt hi high) (grind arith) h)
-  where
-    go : (b d : Bool) → (b || d) ≡ true → ((v : Cell) → is_among (num_cut b lo ++ num_cut d (hi +ℤ pos 1)) v ≡ true → ⊥) → ⊥
-    go true d e h = h (Num lo) (grind (arith, cell_eq-refl (Num lo)))
-    go false true e h = h (Num (hi +ℤ pos 1)) (grind (arith, cell_eq-refl (Num (hi +ℤ pos 1))))
-    go false false e h = absurd (grind arith)
-cut_constrains Texts low high (Nums lo hi) f h = absurd (grind arith)
-cut_constrains Numbers low high (Strs lo hi) f h = absurd (grind arith)
-cut_constrains Texts low high (Strs [] None) f h = absurd (grind arith)
-cut_constrains Texts low high (Strs [] (Some hi)) f h = absurd (h (Str hi) (grind (arith, cell_eq-refl (Str hi))))
-cut_constrains Texts low high (Strs (b ∷ lo) hi) f h = absurd (h (Str (b ∷ lo)) (grind (arith, cell_eq-refl (Str (b ∷ lo)))))
+cut_constrains : (k : Kind) (low high : ℤ) (n : Bool) (s : Span) → fits_kind k low high n s ≡ true → ((v : Cell) → has_cut k low high n s v ≡ true → ⊥) → constrains s ≡ false
+cut_constrains k low high n Full f h = refl
+cut_constrains k low high n (Nums lo hi) f h = let cut = numbers_cut k low high n lo hi f in absurd (h cut.0 cut.1)
+cut_constrains k low high n (Strs lo hi) f h = let cut = texts_cut k low high n lo hi f in absurd (h cut.0 cut.1)
+cut_constrains k low high n Null f h = let cut = null_has_cut k low high n f in absurd (h cut.0 cut.1)
 
 free-cuts : (c : Column) (given : List Rect) (v : Cell) → is_free 0 given ≡ true → is_among (first_cuts c given) v ≡ false
 free-cuts c [] v h = refl
 free-cuts c ([] ∷ given) v h = free-cuts c given v (grind arith)
-free-cuts c ((s ∷ r) ∷ given) v h = is_among-append (cuts_of c.kind c.lo c.hi s) (first_cuts c given) v ∙ go s (grind arith) (free-cuts c given v (grind arith))
+free-cuts c ((s ∷ r) ∷ given) v h = is_among-append (cuts_of c.kind c.lo c.hi c.nullable s) (first_cuts c given) v ∙ go s (grind arith) (free-cuts c given v (grind arith))
   where
-    go : (s : Span) → constrains s ≡ false → is_among (first_cuts c given) v ≡ false → (is_among (cuts_of c.kind c.lo c.hi s) v || is_among (first_cuts c given) v) ≡ false
-    go Full e ih = let n = no_cut-full c.kind c.lo c.hi v in grind (arith, n, ih)
+    go : (s : Span) → constrains s ≡ false → is_among (first_cuts c given) v ≡ false → (is_among (cuts_of c.kind c.lo c.hi c.nullable s) v || is_among (first_cuts c given) v) ≡ false
+    go Full e ih = let n = no_cut-full c.kind c.lo c.hi c.nullable v in grind (arith, n, ih)
     go (Nums lo hi) e ih = absurd (grind arith)
     go (Strs lo hi) e ih = absurd (grind arith)
+    go Null e ih = absurd (grind arith)
 
 free-behind : (k : ℕ) (given : List Rect) → is_free (suc k) given ≡ true → is_free k (others given) ≡ true
 free-behind k [] h = refl
@@ -169,7 +159,7 @@ free-behind k ((s ∷ r) ∷ given) h = let ih = free-behind k given (grind arit
 pub free-kept : (cs : List Column) (given : List Rect) (r : Rect) (k : ℕ) → rect_fits cs r ≡ true → CutsAmong cs r given → is_free k given ≡ true → constrains (span_at k r) ≡ false
 free-kept cs given [] k f h e = refl
 free-kept [] given (s ∷ r) k f h e = absurd (grind arith)
-free-kept (c ∷ cs) given (s ∷ r) zero f h e = cut_constrains c.kind c.lo c.hi s (grind arith) (λ v is. let x = h.0 v is in let y = free-cuts c given v e in absurd (grind (arith, x, y)))
+free-kept (c ∷ cs) given (s ∷ r) zero f h e = cut_constrains c.kind c.lo c.hi c.nullable s (grind arith) (λ v is. let x = h.0 v is in let y = free-cuts c given v e in absurd (grind (arith, x, y)))
 free-kept (c ∷ cs) given (s ∷ r) (suc k) f h e = free-kept cs (others given) r k (grind arith) h.1 (free-behind k given e)
 
 beyond : (r : Rect) (k : ℕ) → length r ≤ k → constrains (span_at k r) ≡ false
@@ -259,6 +249,7 @@ free-same [] c h = refl
 free-same (Full ∷ r) zero h = refl
 free-same (Nums lo hi ∷ r) zero h = absurd (cc)
 free-same (Strs lo hi ∷ r) zero h = absurd (cc)
+free-same (Null ∷ r) zero h = absurd (cc)
 free-same (s ∷ r) (suc c) h = ap (λ q. s ∷ q) (free-same r c h)
 
 free_all-same : (c : ℕ) (rects : List Rect) → is_free c rects ≡ true → free_all c rects ≡ rects

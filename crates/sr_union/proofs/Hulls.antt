@@ -5,7 +5,7 @@ use Rattle.std.specs.Option.{is_some}
 use Rattle.std.specs.List.{list_all, list_any}
 use Rattle.std.proofs.lemmas.Int.{ints}
 use Rattle.sr_box.specs.declared.span.Span.{Span}
-use Rattle.sr_box.specs.declared.span.Span.TheVariants.{Full, Nums, Strs}
+use Rattle.sr_box.specs.declared.span.Span.TheVariants.{Full, Nums, Strs, Null}
 use Rattle.sr_cell.specs.declared.cell.Cell.{Cell}
 use Rattle.sr_cell.specs.Cells.{Row}
 use Rattle.sr_box.specs.Spans.{in_span}
@@ -22,6 +22,7 @@ pub wider : (b : Bound) (lo hi x y : ℤ) → x ≡ lo → y ≡ hi → int_le l
 wider b lo hi x y e f p q Full h = grind (arith, ints, e, f, p, q, h)
 wider b lo hi x y e f p q (Nums c d) h = grind (arith, ints, e, f, p, q, h)
 wider b lo hi x y e f p q (Strs c d) h = grind (arith, ints, e, f, p, q, h)
+wider b lo hi x y e f p q Null h = grind (arith, ints, e, f, p, q, h)
 
 pub hull_wider : (h i : Hull) → ((s : Span) → in_bound h.first s ≡ true → in_bound i.first s ≡ true) → ((s : Span) → in_bound h.second s ≡ true → in_bound i.second s ≡ true)
     → ((s : Span) → in_bound h.third s ≡ true → in_bound i.third s ≡ true) → (r : Rect) → in_hull h r ≡ true → in_hull i r ≡ true
@@ -47,7 +48,7 @@ meet_at zero (s ∷ r) (t ∷ q) h = none_first (meet s t) (rect_meet r q) h
 meet_at (suc k) (s ∷ r) (t ∷ q) h = none_rest (meet s t) (rect_meet r q) (meet_at k r q h)
 
 -- lists of rects that lie in hulls of which no two rects meet do not meet
-meet_none : (i : Hull) (r : Rect) (others : List Rect) → ((q : Rect) → in_hull i q ≡ true → is_some (rect_meet r q) ≡ false) → list_all (in_hull i) others ≡ true
+pub meet_none : (i : Hull) (r : Rect) (others : List Rect) → ((q : Rect) → in_hull i q ≡ true → is_some (rect_meet r q) ≡ false) → list_all (in_hull i) others ≡ true
     → list_any (λ q. is_some (rect_meet r q)) others ≡ false
 meet_none i r [] f g = refl
 meet_none i r (q ∷ others) f g =

@@ -1,12 +1,13 @@
 -- Spans and rects that lie side by side.
-use Rattle.std.proofs.Common.{◌≡◌, ℕ, zero, suc, true, false, List, [], ◌∷◌, ◌++◌, ◌+◌, ◌-◌, ◌<◌, length, take, drop, slice_index_or, refl, arith, ◌∙◌, sym, append_assoc, ap, subst}
+use Rattle.std.proofs.Common.{◌≡◌, ℕ, zero, suc, true, false, List, [], ◌∷◌, ◌++◌, ◌+◌, ◌-◌, ◌<◌, length, take, drop, slice_index_or, refl, arith, true≢false, ◌∙◌, sym, append_assoc, ap, subst}
 use Rattle.std.specs.Prelude.{Bool, ◌&&◌, ◌||◌, not, Option, Some, None, ℤ, int_le, int_lt, pos, ◌+ℤ◌, if◌then◌else◌, slice_get, slice_set}
 use Rattle.std.specs.List.{list_all}
 use Rattle.std.proofs.lemmas.List.{length-append, length-drop, take_more, take_all}
 use Rattle.std.proofs.lemmas.List.Folds.{list_all-append}
 use Rattle.std.proofs.lemmas.Int.{ints}
+use Rattle.std.proofs.Math.Bool.{or_comm}
 use Rattle.sr_cell.specs.declared.cell.Cell.{Cell}
-use Rattle.sr_cell.specs.declared.cell.Cell.TheVariants.{Num, Str}
+use Rattle.sr_cell.specs.declared.cell.Cell.TheVariants.{Num, Str, Null as NullCell}
 use Rattle.sr_cell.specs.declared.table.Kind.{Kind}
 use Rattle.sr_cell.specs.declared.table.Kind.TheVariants.{Num as Numbers, Str as Texts}
 use Rattle.sr_cell.specs.declared.table.Column.{Column}
@@ -18,19 +19,20 @@ use Rattle.sr_box.specs.declared.span.Span.TheVariants.{Full, Nums, Strs}
 use Rattle.sr_box.specs.Spans.{in_span, is_below, is_whole, fits_kind, span_fits}
 use Rattle.sr_box.specs.Points.{Rect, in_rect, rect_fits, times}
 use Rattle.sr_box.proofs.Order.{is_below-between}
+use Rattle.sr_box.specs.Corners.{text_cut, end_cut, null_cut}
 use Rattle.sr_union.specs.Grid.{is_among, has_cut, first_cuts, others, CutsAmong, AreCutFrom}
 use Rattle.sr_union.specs.Pieces.{IsMinus, IsOnce}
 use Rattle.sr_union.specs.Joined.{AreBeside, numbers, texts, IsBoth, IsJoined}
 use Rattle.sr_union.proofs.Times.{times-append}
-use Rattle.sr_union.proofs.Cuts.{nums-cut, strs-cut}
-use Rattle.sr_union.proofs.Among.{AreCutFrom-append}
+use Rattle.sr_union.proofs.Cuts.{cut-is, nums-cut, strs-cut}
+use Rattle.sr_union.proofs.Among.{AreCutFrom-append, among_either}
 use Rattle.sr_union.proofs.Parts.{are_fit}
 use Rattle.sr_union.proofs.Inner.{fits_length}
 use Rattle.sr_union.proofs.Once.{are_self, are_trans, once_more, with_one}
 
 -- the span, or Full where it has each value
-abbrev fitted : Kind → ℤ → ℤ → Span → Span
-fitted k low high s = if fits_kind k low high s then s else Full
+abbrev fitted : Kind → ℤ → ℤ → Bool → Span → Span
+fitted k low high n s = if fits_kind k low high n s then s else Full
 
 -- a value below the border q of two spans is before the end of the second, and one above it is behind the beginning of the first
 split-once : (p q r s : Bool) → r ≡ not q → (q ≡ true → s ≡ true) → (q ≡ false → p ≡ true) → (if p && s then 1 else 0) ≡ (if p && q then 1 else 0) + (if r && s then 1 else 0)
@@ -63,9 +65,14 @@ all-numbers false o h a u i j k e = absurd (grind (arith, i))
 all-numbers true false h a u i j k e = absurd (grind (arith, j))
 all-numbers true true false a u i j k e = absurd (grind (arith, k))
 
-numbers-once : (low high a b d n : ℤ) → fits_kind Numbers low high (Nums a b) ≡ true → fits_kind Numbers low high (Nums (b +ℤ pos 1) d) ≡ true → in_kind Numbers low high (Num n) ≡ true
-    → (if in_span (fitted Numbers low high (Nums a d)) (Num n) then 1 else 0) ≡ (if in_span (Nums a b) (Num n) then 1 else 0) + (if in_span (Nums (b +ℤ pos 1) d) (Num n) then 1 else 0)
-numbers-once low high a b d n f g h = go (fits_kind Numbers low high (Nums a d)) refl
+-- a span of numbers that does not fit has all of them, in a column without Null
+no_fit : (low high : ℤ) (n : Bool) (a d : ℤ) → int_le low a ≡ true → int_le a d ≡ true → int_le d high ≡ true → fits_kind Numbers low high n (Nums a d) ≡ false → (int_lt low a ≡ false) × (int_lt d high ≡ false) × (n ≡ false)
+no_fit low high true a d i j k e = absurd (grind (arith, i, j, k, e))
+no_fit low high false a d i j k e = let x = all-numbers (int_le low a) (int_le a d) (int_le d high) (int_lt low a) (int_lt d high) i j k e in (x.0, x.1, refl)
+
+numbers-once : (low high : ℤ) (nu : Bool) (a b d n : ℤ) → fits_kind Numbers low high nu (Nums a b) ≡ true → fits_kind Numbers low high nu (Nums (b +ℤ pos 1) d) ≡ true → in_kind Numbers low high nu (Num n) ≡ true
+    → (if in_span (fitted Numbers low high nu (Nums a d)) (Num n) then 1 else 0) ≡ (if in_span (Nums a b) (Num n) then 1 else 0) + (if in_span (Nums (b +ℤ pos 1) d) (Num n) then 1 else 0)
+numbers-once low high nu a b d n f g h = go (fits_kind Numbers low high nu (Nums a d)) refl
   where
     first : (int_le low a ≡ true) × (int_le a b ≡ true)
     first = (grind (arith, f), grind (arith, f))
@@ -76,27 +83,28 @@ numbers-once low high a b d n f g h = go (fits_kind Numbers low high (Nums a d))
     once : (if int_le a n && int_le n d then 1 else 0) ≡ (if int_le a n && int_le n b then 1 else 0) + (if int_le (b +ℤ pos 1) n && int_le n d then 1 else 0)
     once = split-once (int_le a n) (int_le n b) (int_le (b +ℤ pos 1) n) (int_le n d) (from_next b n) (before_end b d n second.0) (behind_start a b n first.1)
 
-    go : (x : Bool) → fits_kind Numbers low high (Nums a d) ≡ x
+    go : (x : Bool) → fits_kind Numbers low high nu (Nums a d) ≡ x
         → (if in_span (if x then Nums a d else Full) (Num n) then 1 else 0) ≡ (if in_span (Nums a b) (Num n) then 1 else 0) + (if in_span (Nums (b +ℤ pos 1) d) (Num n) then 1 else 0)
     go true e = once
     go false e =
-        let none = all-numbers (int_le low a) (int_le a d) (int_le d high) (int_lt low a) (int_lt d high) first.0 (before_end b d a second.0 first.1) second.1 e in
+        let none = no_fit low high nu a d first.0 (before_end b d a second.0 first.1) second.1 e in
         let from = from_lowest low a n none.0 (grind (arith, h)) in
         let to = to_highest high d n none.1 (grind (arith, h)) in
         sym (ap (λ x. if x && int_le n d then 1 else 0) from ∙ ap (λ x. if x then 1 else 0) to) ∙ once
 
 -- what the whole texts of two spans are
-whole_texts : (low high : ℤ) (a b : List ℕ) (d : Option (List ℕ)) → fits_kind Texts low high (Strs a (Some b)) ≡ true → fits_kind Texts low high (Strs b d) ≡ true → fits_kind Texts low high (Strs a d) ≡ false
-    → is_whole a d ≡ true
-whole_texts low high a b d f g n = let t = text_le-total b a in let w = is_below-between a b d in grind (arith, t, w)
+whole_texts : (low high : ℤ) (n : Bool) (a b : List ℕ) (d : Option (List ℕ)) → fits_kind Texts low high n (Strs a (Some b)) ≡ true → fits_kind Texts low high n (Strs b d) ≡ true → fits_kind Texts low high n (Strs a d) ≡ false
+    → (is_whole a d ≡ true) × (n ≡ false)
+whole_texts low high true a b d f g e = absurd (let t = text_le-total b a in let w = is_below-between a b d in grind (arith, t, w, f, g, e))
+whole_texts low high false a b d f g e = (let t = text_le-total b a in let w = is_below-between a b d in grind (arith, t, w), refl)
 
 not-not : (x : Bool) → x ≡ not (not x)
 not-not true = refl
 not-not false = refl
 
-texts-once : (low high : ℤ) (a b : List ℕ) (d : Option (List ℕ)) (s : List ℕ) → fits_kind Texts low high (Strs a (Some b)) ≡ true → fits_kind Texts low high (Strs b d) ≡ true
-    → (if in_span (fitted Texts low high (Strs a d)) (Str s) then 1 else 0) ≡ (if in_span (Strs a (Some b)) (Str s) then 1 else 0) + (if in_span (Strs b d) (Str s) then 1 else 0)
-texts-once low high a b d s f g = go (fits_kind Texts low high (Strs a d)) refl
+texts-once : (low high : ℤ) (n : Bool) (a b : List ℕ) (d : Option (List ℕ)) (s : List ℕ) → fits_kind Texts low high n (Strs a (Some b)) ≡ true → fits_kind Texts low high n (Strs b d) ≡ true
+    → (if in_span (fitted Texts low high n (Strs a d)) (Str s) then 1 else 0) ≡ (if in_span (Strs a (Some b)) (Str s) then 1 else 0) + (if in_span (Strs b d) (Str s) then 1 else 0)
+texts-once low high n a b d s f g = go (fits_kind Texts low high n (Strs a d)) refl
   where
     whole : (a : List ℕ) (d : Option (List ℕ)) → is_whole a d ≡ true → 1 ≡ (if in_span (Strs a (Some b)) (Str s) then 1 else 0) + (if in_span (Strs b d) (Str s) then 1 else 0)
     whole [] None e = grind arith
@@ -112,74 +120,112 @@ texts-once low high a b d s f g = go (fits_kind Texts low high (Strs a d)) refl
     above : not (text_le b s) ≡ false → text_le a s ≡ true
     above h = text_le-trans a b s in_order (grind (arith, h))
 
-    go : (x : Bool) → fits_kind Texts low high (Strs a d) ≡ x
+    go : (x : Bool) → fits_kind Texts low high n (Strs a d) ≡ x
         → (if in_span (if x then Strs a d else Full) (Str s) then 1 else 0) ≡ (if in_span (Strs a (Some b)) (Str s) then 1 else 0) + (if in_span (Strs b d) (Str s) then 1 else 0)
     go true e = split-once (text_le a s) (not (text_le b s)) (text_le b s) (is_below s d) (not-not (text_le b s)) below above
-    go false e = whole a d (whole_texts low high a b d f g e)
+    go false e = whole a d (whole_texts low high n a b d f g e).0
 
-fitted-fits : (k : Kind) (low high : ℤ) (s : Span) → fits_kind k low high (fitted k low high s) ≡ true
-fitted-fits k low high s = go (fits_kind k low high s) refl
+-- Null is in neither span, and the span of both that fits has it not
+numbers-null : (low high : ℤ) (n : Bool) (a b d : ℤ) → fits_kind Numbers low high n (Nums a b) ≡ true → fits_kind Numbers low high n (Nums (b +ℤ pos 1) d) ≡ true → n ≡ true
+    → in_span (fitted Numbers low high n (Nums a d)) NullCell ≡ false
+numbers-null low high n a b d f g is = go (fits_kind Numbers low high n (Nums a d)) refl
   where
-    go : (x : Bool) → fits_kind k low high s ≡ x → fits_kind k low high (if x then s else Full) ≡ true
+    go : (x : Bool) → fits_kind Numbers low high n (Nums a d) ≡ x → in_span (if x then Nums a d else Full) NullCell ≡ false
+    go true e = refl
+    go false e = let none = no_fit low high n a d (grind (arith, f)) (before_end b d a (grind (arith, g)) (grind (arith, f))) (grind (arith, g)) e in absurd (true≢false (sym is ∙ none.2))
+
+texts-null : (low high : ℤ) (n : Bool) (a b : List ℕ) (d : Option (List ℕ)) → fits_kind Texts low high n (Strs a (Some b)) ≡ true → fits_kind Texts low high n (Strs b d) ≡ true → n ≡ true
+    → in_span (fitted Texts low high n (Strs a d)) NullCell ≡ false
+texts-null low high n a b d f g is = go (fits_kind Texts low high n (Strs a d)) refl
+  where
+    go : (x : Bool) → fits_kind Texts low high n (Strs a d) ≡ x → in_span (if x then Strs a d else Full) NullCell ≡ false
+    go true e = refl
+    go false e = let none = whole_texts low high n a b d f g e in absurd (true≢false (sym is ∙ none.1))
+
+fitted-fits : (k : Kind) (low high : ℤ) (n : Bool) (s : Span) → fits_kind k low high n (fitted k low high n s) ≡ true
+fitted-fits k low high n s = go (fits_kind k low high n s) refl
+  where
+    go : (x : Bool) → fits_kind k low high n s ≡ x → fits_kind k low high n (if x then s else Full) ≡ true
     go true e = e
     go false e = refl
 
-fitted-cuts : (k : Kind) (low high : ℤ) (s : Span) (v : Cell) → has_cut k low high (fitted k low high s) v ≡ true → has_cut k low high s v ≡ true
-fitted-cuts k low high s v h = go (fits_kind k low high s) k h
+fitted-cuts : (k : Kind) (low high : ℤ) (n : Bool) (s : Span) (v : Cell) → has_cut k low high n (fitted k low high n s) v ≡ true → has_cut k low high n s v ≡ true
+fitted-cuts k low high n s v h = go (fits_kind k low high n s) k h
   where
-    go : (x : Bool) (k : Kind) → has_cut k low high (if x then s else Full) v ≡ true → has_cut k low high s v ≡ true
+    go : (x : Bool) (k : Kind) → has_cut k low high n (if x then s else Full) v ≡ true → has_cut k low high n s v ≡ true
     go true k e = e
     go false Numbers e = absurd (grind arith)
     go false Texts e = absurd (grind arith)
 
-numbers-cuts : (low high a b c d : ℤ) (v : Cell) → has_cut Numbers low high (Nums a d) v ≡ true → (has_cut Numbers low high (Nums a b) v || has_cut Numbers low high (Nums c d) v) ≡ true
-numbers-cuts low high a b c d v h = let x = nums-cut low high a d v in let y = nums-cut low high a b v in let z = nums-cut low high c d v in grind (arith, x, y, z)
+numbers-cuts : (low high : ℤ) (n : Bool) (a b c d : ℤ) (v : Cell) → has_cut Numbers low high n (Nums a d) v ≡ true → (has_cut Numbers low high n (Nums a b) v || has_cut Numbers low high n (Nums c d) v) ≡ true
+numbers-cuts low high n a b c d v h =
+    let x = nums-cut low high a d v in let y = nums-cut low high a b v in let z = nums-cut low high c d v in
+    let p = cut-is Numbers low high n (Nums a d) v in let q = cut-is Numbers low high n (Nums a b) v in let r = cut-is Numbers low high n (Nums c d) v in grind (arith, x, y, z, p, q, r)
 
-texts-cuts : (low high : ℤ) (a c : List ℕ) (b d : Option (List ℕ)) (v : Cell) → has_cut Texts low high (Strs a d) v ≡ true → (has_cut Texts low high (Strs a b) v || has_cut Texts low high (Strs c d) v) ≡ true
-texts-cuts low high a c b d v h = let x = strs-cut low high a d v in let y = strs-cut low high a b v in let z = strs-cut low high c d v in grind (arith, x, y, z)
+texts-cut : (low high : ℤ) (n : Bool) (lo : List ℕ) (hi : Option (List ℕ)) (v : Cell)
+    → has_cut Texts low high n (Strs lo hi) v ≡ (is_among (null_cut n) v || (is_among (text_cut lo) v || is_among (end_cut hi) v))
+texts-cut low high n lo hi v = cut-is Texts low high n (Strs lo hi) v ∙ ap (λ x. is_among (null_cut n) v || x) (strs-cut low high lo hi v)
+
+outer : (n a b c d : Bool) → (n || (a || d)) ≡ true → ((n || (a || b)) || (n || (c || d))) ≡ true
+outer true a b c d h = refl
+outer false true b c d h = refl
+outer false false true c d h = refl
+outer false false false true d h = refl
+outer false false false false d h = h
+
+outer_of : (x y z n a b c d : Bool) → x ≡ (n || (a || d)) → y ≡ (n || (a || b)) → z ≡ (n || (c || d)) → x ≡ true → (y || z) ≡ true
+outer_of x y z n a b c d e f g h = rw (f, g) (outer n a b c d (sym e ∙ h))
+
+texts-cuts : (low high : ℤ) (n : Bool) (a c : List ℕ) (b d : Option (List ℕ)) (v : Cell) → has_cut Texts low high n (Strs a d) v ≡ true → (has_cut Texts low high n (Strs a b) v || has_cut Texts low high n (Strs c d) v) ≡ true
+texts-cuts low high n a c b d v h =
+    outer_of (has_cut Texts low high n (Strs a d) v) (has_cut Texts low high n (Strs a b) v) (has_cut Texts low high n (Strs c d) v)
+    (is_among (null_cut n) v) (is_among (text_cut a) v) (is_among (end_cut b) v) (is_among (text_cut c) v) (is_among (end_cut d) v)
+    (texts-cut low high n a d v) (texts-cut low high n a b v) (texts-cut low high n c d v) h
 
 -- what both spans make, for the kind of a column
-record IsOne (k : Kind) (low high : ℤ) (s t u : Span) : Type 0 where
-  once : (v : Cell) → in_kind k low high v ≡ true → (if in_span (fitted k low high u) v then 1 else 0) ≡ (if in_span s v then 1 else 0) + (if in_span t v then 1 else 0)
-  cuts : (v : Cell) → has_cut k low high u v ≡ true → (has_cut k low high s v || has_cut k low high t v) ≡ true
+record IsOne (k : Kind) (low high : ℤ) (n : Bool) (s t u : Span) : Type 0 where
+  once : (v : Cell) → in_kind k low high n v ≡ true → (if in_span (fitted k low high n u) v then 1 else 0) ≡ (if in_span s v then 1 else 0) + (if in_span t v then 1 else 0)
+  cuts : (v : Cell) → has_cut k low high n u v ≡ true → (has_cut k low high n s v || has_cut k low high n t v) ≡ true
 
-numbers-one : (k : Kind) (low high a b d : ℤ) → fits_kind k low high (Nums a b) ≡ true → fits_kind k low high (Nums (b +ℤ pos 1) d) ≡ true → IsOne k low high (Nums a b) (Nums (b +ℤ pos 1) d) (Nums a d)
-numbers-one Numbers low high a b d f g = record { once = once; cuts = numbers-cuts low high a b (b +ℤ pos 1) d }
+numbers-one : (k : Kind) (low high : ℤ) (n : Bool) (a b d : ℤ) → fits_kind k low high n (Nums a b) ≡ true → fits_kind k low high n (Nums (b +ℤ pos 1) d) ≡ true → IsOne k low high n (Nums a b) (Nums (b +ℤ pos 1) d) (Nums a d)
+numbers-one Numbers low high n a b d f g = record { once = once; cuts = numbers-cuts low high n a b (b +ℤ pos 1) d }
   where
-    once : (v : Cell) → in_kind Numbers low high v ≡ true
-        → (if in_span (fitted Numbers low high (Nums a d)) v then 1 else 0) ≡ (if in_span (Nums a b) v then 1 else 0) + (if in_span (Nums (b +ℤ pos 1) d) v then 1 else 0)
-    once (Num n) h = numbers-once low high a b d n f g h
+    once : (v : Cell) → in_kind Numbers low high n v ≡ true
+        → (if in_span (fitted Numbers low high n (Nums a d)) v then 1 else 0) ≡ (if in_span (Nums a b) v then 1 else 0) + (if in_span (Nums (b +ℤ pos 1) d) v then 1 else 0)
+    once (Num m) h = numbers-once low high n a b d m f g h
     once (Str s) h = absurd (grind arith)
-numbers-one Texts low high a b d f g = absurd (grind arith)
+    once NullCell h = ap (λ x. if x then 1 else 0) (numbers-null low high n a b d f g h)
+numbers-one Texts low high n a b d f g = absurd (grind arith)
 
-texts-one : (k : Kind) (low high : ℤ) (a b : List ℕ) (d : Option (List ℕ)) → fits_kind k low high (Strs a (Some b)) ≡ true → fits_kind k low high (Strs b d) ≡ true
-    → IsOne k low high (Strs a (Some b)) (Strs b d) (Strs a d)
-texts-one Numbers low high a b d f g = absurd (grind arith)
-texts-one Texts low high a b d f g = record { once = once; cuts = texts-cuts low high a b (Some b) d }
+texts-one : (k : Kind) (low high : ℤ) (n : Bool) (a b : List ℕ) (d : Option (List ℕ)) → fits_kind k low high n (Strs a (Some b)) ≡ true → fits_kind k low high n (Strs b d) ≡ true
+    → IsOne k low high n (Strs a (Some b)) (Strs b d) (Strs a d)
+texts-one Numbers low high n a b d f g = absurd (grind arith)
+texts-one Texts low high n a b d f g = record { once = once; cuts = texts-cuts low high n a b (Some b) d }
   where
-    once : (v : Cell) → in_kind Texts low high v ≡ true
-        → (if in_span (fitted Texts low high (Strs a d)) v then 1 else 0) ≡ (if in_span (Strs a (Some b)) v then 1 else 0) + (if in_span (Strs b d) v then 1 else 0)
-    once (Num n) h = absurd (grind arith)
-    once (Str s) h = texts-once low high a b d s f g
+    once : (v : Cell) → in_kind Texts low high n v ≡ true
+        → (if in_span (fitted Texts low high n (Strs a d)) v then 1 else 0) ≡ (if in_span (Strs a (Some b)) v then 1 else 0) + (if in_span (Strs b d) v then 1 else 0)
+    once (Num m) h = absurd (grind arith)
+    once (Str s) h = texts-once low high n a b d s f g
+    once NullCell h = ap (λ x. if x then 1 else 0) (texts-null low high n a b d f g h)
 
-beside-one : (k : Kind) (low high : ℤ) (s t u : Span) → fits_kind k low high s ≡ true → fits_kind k low high t ≡ true → AreBeside s t u → IsOne k low high s t u
-beside-one k low high s t u f g (numbers a b d x y z) =
-    subst (λ r. IsOne k low high r t u) (sym x) (subst (λ r. IsOne k low high (Nums a b) r u) (sym y) (subst (IsOne k low high (Nums a b) (Nums (b +ℤ pos 1) d)) (sym z)
-    (numbers-one k low high a b d (subst (λ r. fits_kind k low high r ≡ true) x f) (subst (λ r. fits_kind k low high r ≡ true) y g))))
-beside-one k low high s t u f g (texts a b d x y z) =
-    subst (λ r. IsOne k low high r t u) (sym x) (subst (λ r. IsOne k low high (Strs a (Some b)) r u) (sym y) (subst (IsOne k low high (Strs a (Some b)) (Strs b d)) (sym z)
-    (texts-one k low high a b d (subst (λ r. fits_kind k low high r ≡ true) x f) (subst (λ r. fits_kind k low high r ≡ true) y g))))
+beside-one : (k : Kind) (low high : ℤ) (n : Bool) (s t u : Span) → fits_kind k low high n s ≡ true → fits_kind k low high n t ≡ true → AreBeside s t u → IsOne k low high n s t u
+beside-one k low high n s t u f g (numbers a b d x y z) =
+    subst (λ r. IsOne k low high n r t u) (sym x) (subst (λ r. IsOne k low high n (Nums a b) r u) (sym y) (subst (IsOne k low high n (Nums a b) (Nums (b +ℤ pos 1) d)) (sym z)
+    (numbers-one k low high n a b d (subst (λ r. fits_kind k low high n r ≡ true) x f) (subst (λ r. fits_kind k low high n r ≡ true) y g))))
+beside-one k low high n s t u f g (texts a b d x y z) =
+    subst (λ r. IsOne k low high n r t u) (sym x) (subst (λ r. IsOne k low high n (Strs a (Some b)) r u) (sym y) (subst (IsOne k low high n (Strs a (Some b)) (Strs b d)) (sym z)
+    (texts-one k low high n a b d (subst (λ r. fits_kind k low high n r ≡ true) x f) (subst (λ r. fits_kind k low high n r ≡ true) y g))))
 
 -- the answer, where the second span begins just above the end of the first
 pub both-up : (c : Column) (s t u w : Span) → span_fits c s ≡ true → span_fits c t ≡ true → AreBeside s t u → w ≡ (if span_fits c u then u else Full) → IsBoth c s t w
-both-up c s t u w f g h e = let one = beside-one c.kind c.lo c.hi s t u f g h in
-    subst (IsBoth c s t) (sym e) (record { once = one.once; fits = fitted-fits c.kind c.lo c.hi u; cuts = λ v is. one.cuts v (fitted-cuts c.kind c.lo c.hi u v is) })
+both-up c s t u w f g h e = let one = beside-one c.kind c.lo c.hi c.nullable s t u f g h in
+    subst (IsBoth c s t) (sym e) (record { once = one.once; fits = fitted-fits c.kind c.lo c.hi c.nullable u; cuts = λ v is. one.cuts v (fitted-cuts c.kind c.lo c.hi c.nullable u v is) })
 
 turned : (c : Column) (s t w : Span) → IsBoth c t s w → IsBoth c s t w
 turned c s t w h = record {
   once = λ v e. let x = h.once v e in omega (arith, x);
   fits = h.fits;
-  cuts = λ v e. let x = h.cuts v e in grind (arith, x);
+  cuts = λ v e. or_comm (has_cut c.kind c.lo c.hi c.nullable s v) (has_cut c.kind c.lo c.hi c.nullable t v) ∙ h.cuts v e;
 }
 
 -- and where the first begins just above the end of the second
@@ -226,9 +272,9 @@ twins-cuts cs given [] q k c s t w h i j m b x y = absurd (let l = h.is_column i
 twins-cuts [] given (u ∷ r) q k c s t w h i j m b x y = absurd (let f = h.fits in grind (arith, f))
 twins-cuts (d ∷ cs) given (u ∷ r) [] k c s t w h i j m b x y = absurd (let f = h.other_fits in grind (arith, f))
 twins-cuts (d ∷ cs) given (u ∷ r) (v ∷ q) zero c s t w h i j m b x y = (
-  λ n e. let o = subst (λ z. has_cut z.kind z.lo z.hi w n ≡ true → (has_cut z.kind z.lo z.hi s n || has_cut z.kind z.lo z.hi t n) ≡ true) i (b.cuts n) e in
-      let left = subst (λ z. has_cut d.kind d.lo d.hi z n ≡ true → is_among (first_cuts d given) n ≡ true) (sym j) (x.0 n) in
-      let right = subst (λ z. has_cut d.kind d.lo d.hi z n ≡ true → is_among (first_cuts d given) n ≡ true) (sym m) (y.0 n) in grind (arith, o, left, right),
+  λ n e. let o = subst (λ z. has_cut z.kind z.lo z.hi z.nullable w n ≡ true → (has_cut z.kind z.lo z.hi z.nullable s n || has_cut z.kind z.lo z.hi z.nullable t n) ≡ true) i (b.cuts n) e in
+      let left = subst (λ z. has_cut d.kind d.lo d.hi d.nullable z n ≡ true → is_among (first_cuts d given) n ≡ true) (sym j) (x.0 n) in
+      let right = subst (λ z. has_cut d.kind d.lo d.hi d.nullable z n ≡ true → is_among (first_cuts d given) n ≡ true) (sym m) (y.0 n) in among_either d given s t n o left right,
   x.1,
 )
 twins-cuts (d ∷ cs) given (u ∷ r) (v ∷ q) (suc k) c s t w h i j m b x y =

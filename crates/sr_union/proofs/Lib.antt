@@ -19,3 +19,4 @@ pub mod Slices
 pub mod Distinct
 pub mod SpanCuts
 pub mod Hulls
+pub mod Blocks

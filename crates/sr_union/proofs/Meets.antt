@@ -17,7 +17,7 @@ use Rattle.sr_union.specs.Pieces.{meet_each, meet_all, near}
 use Rattle.sr_union.specs.Grid.{has_cut, others, CutsAmong, AreCutFrom}
 use Rattle.sr_union.proofs.Cuts.{maybe_cut, meet-cut}
 use Rattle.sr_union.proofs.Times.{times-append}
-use Rattle.sr_union.proofs.Among.{AreCutFrom-append}
+use Rattle.sr_union.proofs.Among.{AreCutFrom-append, among_either}
 use Rattle.sr_union.proofs.Parts.{are_part}
 
 some-times : (m : Option Rect) (p : Row) → times (option_to_list m) p ≡ (if in_some m p then 1 else 0)
@@ -63,14 +63,14 @@ rect_meet-are [] given (s ∷ r) q f g h k = absurd (grind arith)
 rect_meet-are (c ∷ cs) given [] q f g h k = absurd (grind arith)
 rect_meet-are (c ∷ cs) given (s ∷ r) [] f g h k = tt
 rect_meet-are (c ∷ cs) given (s ∷ r) (t ∷ q) f g h k =
-    go (meet s t) (rect_meet r q) (meet-fits c.kind c.lo c.hi s t (grind arith) (grind arith)) (λ v e. meet-cut c.kind c.lo c.hi s t v e)
+    go (meet s t) (rect_meet r q) (meet-fits c.kind c.lo c.hi c.nullable s t (grind arith) (grind arith)) (λ v e. meet-cut c.kind c.lo c.hi c.nullable s t v e)
     (rect_meet-are cs (others given) r q (grind arith) (grind arith) h.1 k.1)
   where
-    go : (m : Option Span) (n : Option Rect) → maybe_fits c.kind c.lo c.hi m ≡ true → ((v : Cell) → maybe_cut c.kind c.lo c.hi m v ≡ true → (has_cut c.kind c.lo c.hi s v || has_cut c.kind c.lo c.hi t v) ≡ true)
+    go : (m : Option Span) (n : Option Rect) → maybe_fits c.kind c.lo c.hi c.nullable m ≡ true → ((v : Cell) → maybe_cut c.kind c.lo c.hi c.nullable m v ≡ true → (has_cut c.kind c.lo c.hi c.nullable s v || has_cut c.kind c.lo c.hi c.nullable t v) ≡ true)
         → AreCutFrom cs (others given) (option_to_list n) → AreCutFrom (c ∷ cs) given (option_to_list (with_first m n))
     go None n e x y = tt
     go (Some m) None e x y = tt
-    go (Some m) (Some n) e x y = let fit = y.0 in (grind (arith, e, fit), ((λ v is. let z = x v is in let a = h.0 v in let b = k.0 v in grind (arith, z, a, b)), y.1), tt)
+    go (Some m) (Some n) e x y = let fit = y.0 in (grind (arith, e, fit), ((λ v is. among_either c given s t v (x v is) (h.0 v) (k.0 v)), y.1), tt)
 
 meet_each-are : (cs : List Column) (given : List Rect) (r : Rect) (qs : List Rect) → rect_fits cs r ≡ true → CutsAmong cs r given → AreCutFrom cs given qs → AreCutFrom cs given (meet_each r qs)
 meet_each-are cs given r [] f h k = tt

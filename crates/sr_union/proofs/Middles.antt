@@ -7,19 +7,19 @@ use Rattle.std.proofs.lemmas.Bool.Decides.{nat_tests}
 use Rattle.std.proofs.lemmas.List.Folds.{list_all-append}
 use Rattle.std.specs.Cmp.{first_so, second_so}
 use Rattle.sr_cell.specs.declared.cell.Cell.{Cell}
-use Rattle.sr_cell.specs.declared.cell.Cell.TheVariants.{Num, Str}
+use Rattle.sr_cell.specs.declared.cell.Cell.TheVariants.{Num, Str, Null as NullCell}
 use Rattle.sr_cell.specs.declared.table.Column.{Column}
 use Rattle.sr_cell.specs.declared.table.Kind.{Kind}
 use Rattle.sr_cell.specs.declared.table.Kind.TheVariants.{Num as Numbers, Str as Texts}
 use Rattle.sr_box.specs.declared.span.Span.{Span}
-use Rattle.sr_box.specs.declared.span.Span.TheVariants.{Full, Nums, Strs}
+use Rattle.sr_box.specs.declared.span.Span.TheVariants.{Full, Nums, Strs, Null}
 use Rattle.sr_cell.specs.Cells.{text_le}
 use Rattle.sr_cell.specs.Columns.{are_bytes, in_kind, in_column, is_point}
 use Rattle.sr_cell.proofs.Order.{text_le-trans, text_le-total, text_le-refl}
 use Rattle.sr_box.specs.Spans.{in_span, span_fits, fits_kind, end_bytes, is_below}
 use Rattle.sr_box.specs.Points.{Rect, in_rect, in_any, rect_fits}
-use Rattle.sr_box.specs.Corners.{first_value, first_span, other_spans}
-use Rattle.sr_union.specs.Grid.{is_inner_kind, is_inner, all_inner, have_first}
+use Rattle.sr_box.specs.Corners.{first_value, first_span, other_spans, have_first}
+use Rattle.sr_union.specs.Grid.{is_inner_kind, is_inner, all_inner}
 use Rattle.sr_union.proofs.Low.{low_point, low-point, low-in, has_point, low_of as cell_low}
 use Rattle.sr_union.specs.Centre.{bytes_1, bytes_2, bytes_3, first_bytes, low_of, high_text, high_of, least, greatest, middle, least_low, greatest_high, middle_at, centre_from, SameCentre}
 use Rattle.sr_union.specs.Free.{span_at}
@@ -32,7 +32,7 @@ low_at (c ∷ cs) (suc k) r = low_at cs k (other_spans r)
 
 abbrev high_at : List Column → ℕ → Rect → ℤ
 high_at [] k r = pos 0
-high_at (c ∷ cs) zero r = high_of c.kind c.hi (first_span r)
+high_at (c ∷ cs) zero r = high_of c.kind c.lo c.hi (first_span r)
 high_at (c ∷ cs) (suc k) r = high_at cs k (other_spans r)
 
 abbrev centre_at : List Column → ℕ → Rect → List Rect → ℤ
@@ -93,21 +93,31 @@ mono (x ∷ s) [] a b h = absurd (grind arith)
 mono (x ∷ s) (y ∷ t) a b h = let r = mono_3 s s (grind arith) (grind arith) (text_le-refl s) in let i = mono_3 s t (grind arith) (grind arith) in (grind (arith, nat_tests, r, i), grind (arith, nat_tests, r))
 
 -- a value has a number, and lies between those of the span
-abbrev val : Cell → ℤ
-val (Num n) = n
-val (Str s) = pos (first_bytes s)
+abbrev val : Kind → ℤ → Cell → ℤ
+val k low (Num n) = n
+val k low (Str s) = pos (first_bytes s)
+val Numbers low NullCell = low
+val Texts low NullCell = pos 0
 
-span-low : (k : Kind) (low high : ℤ) (s : Span) (v : Cell) → fits_kind k low high s ≡ true → in_kind k low high v ≡ true → in_span s v ≡ true → int_le (low_of k low s) (val v) ≡ true
-span-low Numbers low high Full (Num n) f p h = grind arith
-span-low Numbers low high Full (Str n) f p h = absurd (grind arith)
-span-low Texts low high Full (Num n) f p h = absurd (grind arith)
-span-low Texts low high Full (Str s) f p h = grind (arith, ints)
-span-low Numbers low high (Nums lo hi) (Num n) f p h = grind arith
-span-low k low high (Nums lo hi) (Str s) f p h = absurd (grind arith)
-span-low Texts low high (Nums lo hi) (Num n) f p h = absurd (grind arith)
-span-low Numbers low high (Strs lo hi) v f p h = absurd (grind arith)
-span-low Texts low high (Strs lo hi) (Num n) f p h = absurd (grind arith)
-span-low Texts low high (Strs lo hi) (Str s) f p h = let m = mono lo s (grind arith) (grind arith) (grind arith) in let x = m.0 in grind (arith, ints, x)
+span-low : (k : Kind) (low high : ℤ) (nu : Bool) (s : Span) (v : Cell) → fits_kind k low high nu s ≡ true → in_kind k low high nu v ≡ true → in_span s v ≡ true → int_le (low_of k low s) (val k low v) ≡ true
+span-low Numbers low high nu Full (Num n) f p h = grind arith
+span-low Numbers low high nu Full (Str n) f p h = absurd (grind arith)
+span-low Texts low high nu Full (Num n) f p h = absurd (grind arith)
+span-low Texts low high nu Full (Str s) f p h = grind (arith, ints)
+span-low Numbers low high nu (Nums lo hi) (Num n) f p h = grind arith
+span-low k low high nu (Nums lo hi) (Str s) f p h = absurd (grind arith)
+span-low Texts low high nu (Nums lo hi) (Num n) f p h = absurd (grind arith)
+span-low Numbers low high nu (Strs lo hi) v f p h = absurd (grind arith)
+span-low Texts low high nu (Strs lo hi) (Num n) f p h = absurd (grind arith)
+span-low Texts low high nu (Strs lo hi) (Str s) f p h = let m = mono lo s (grind arith) (grind arith) (grind arith) in let x = m.0 in grind (arith, ints, x)
+span-low Numbers low high nu Full NullCell f p h = grind (arith, ints)
+span-low Texts low high nu Full NullCell f p h = grind (arith, ints)
+span-low k low high nu (Nums lo hi) NullCell f p h = absurd (cc)
+span-low Texts low high nu (Strs lo hi) NullCell f p h = absurd (cc)
+span-low k low high nu Null (Num n) f p h = absurd (cc)
+span-low k low high nu Null (Str s) f p h = absurd (cc)
+span-low Numbers low high nu Null NullCell f p h = grind (arith, ints)
+span-low Texts low high nu Null NullCell f p h = grind (arith, ints)
 
 -- the greatest of lo and of the ends that stand below h
 abbrev best : List ℕ → Option (List ℕ) → List (List ℕ) → List ℕ
@@ -144,6 +154,7 @@ end_of Full = []
 end_of (Nums lo hi) = []
 end_of (Strs lo None) = []
 end_of (Strs lo (Some hi)) = hi ∷ []
+end_of Null = []
 
 -- a value of the span that lies above every end, of a list, that stands below its own
 abbrev top : Kind → ℤ → List (List ℕ) → Span → Cell
@@ -153,15 +164,18 @@ top Numbers high ends (Strs lo hi) = Num high
 top Texts high ends Full = Str (best [] None ends)
 top Texts high ends (Nums lo hi) = Str []
 top Texts high ends (Strs lo hi) = Str (best lo hi ends)
+top k high ends Null = NullCell
 
-top-in : (k : Kind) (low high : ℤ) (ends : List (List ℕ)) (s : Span) → fits_kind k low high s ≡ true → (k ≡ Numbers → int_le low high ≡ true) → list_all are_bytes ends ≡ true
-    → (in_span s (top k high ends s) ≡ true) × (in_kind k low high (top k high ends s) ≡ true)
-top-in Numbers low high ends Full f d e = let x = d refl in (refl, grind (arith, ints, x))
-top-in Numbers low high ends (Nums lo hi) f d e = (grind (arith, ints), grind (arith, ints))
-top-in Numbers low high ends (Strs lo hi) f d e = absurd (grind arith)
-top-in Texts low high ends Full f d e = (refl, best-bytes [] None ends refl e)
-top-in Texts low high ends (Nums lo hi) f d e = absurd (grind arith)
-top-in Texts low high ends (Strs lo hi) f d e = let b = best-is lo hi ends (grind arith) in let x = b.0 in let y = b.1 in (grind (arith, x, y), best-bytes lo hi ends (grind arith) e)
+top-in : (k : Kind) (low high : ℤ) (nu : Bool) (ends : List (List ℕ)) (s : Span) → fits_kind k low high nu s ≡ true → (k ≡ Numbers → int_le low high ≡ true) → list_all are_bytes ends ≡ true
+    → (in_span s (top k high ends s) ≡ true) × (in_kind k low high nu (top k high ends s) ≡ true)
+top-in Numbers low high nu ends Full f d e = let x = d refl in (refl, grind (arith, ints, x))
+top-in Numbers low high nu ends (Nums lo hi) f d e = (grind (arith, ints), grind (arith, ints))
+top-in Numbers low high nu ends (Strs lo hi) f d e = absurd (grind arith)
+top-in Texts low high nu ends Full f d e = (refl, best-bytes [] None ends refl e)
+top-in Texts low high nu ends (Nums lo hi) f d e = absurd (grind arith)
+top-in Texts low high nu ends (Strs lo hi) f d e = let b = best-is lo hi ends (grind arith) in let x = b.0 in let y = b.1 in (grind (arith, x, y), best-bytes lo hi ends (grind arith) e)
+top-in Numbers low high nu ends Null f d e = (refl, f)
+top-in Texts low high nu ends Null f d e = (refl, f)
 
 -- a span that has it ends no lower
 text-high : (h : Option (List ℕ)) (x m : List ℕ) → (not (is_below x h) || text_le x m) ≡ true → is_below m (Some x) ≡ true → end_bytes h ≡ true → are_bytes x ≡ true → int_le (high_text h) (pos (first_bytes x)) ≡ true
@@ -172,26 +186,36 @@ high-none : (h : Option (List ℕ)) → end_bytes h ≡ true → int_le (high_te
 high-none None e = grind (arith, ints)
 high-none (Some h) e = let y = (mono h h e e (text_le-refl h)).1 in grind (arith, ints, y)
 
-span-high : (k : Kind) (low high : ℤ) (ends : List (List ℕ)) (s q : Span) → fits_kind k low high s ≡ true → fits_kind k low high q ≡ true
+span-high : (k : Kind) (low high : ℤ) (nu : Bool) (ends : List (List ℕ)) (s q : Span) → (k ≡ Numbers → int_le low high ≡ true) → fits_kind k low high nu s ≡ true → fits_kind k low high nu q ≡ true
     → ((x : List ℕ) (t : List ℕ → Bool) → end_of q ≡ x ∷ [] → list_all t ends ≡ true → t x ≡ true)
-    → in_span q (top k high ends s) ≡ true → int_le (high_of k high s) (high_of k high q) ≡ true
-span-high Numbers low high ends Full Full f g m i = grind (arith, ints)
-span-high Numbers low high ends Full (Nums lo hi) f g m i = grind (arith, ints)
-span-high Numbers low high ends s (Strs lo hi) f g m i = absurd (grind arith)
-span-high Numbers low high ends (Nums lo hi) Full f g m i = grind (arith, ints)
-span-high Numbers low high ends (Nums lo hi) (Nums lo2 hi2) f g m i = grind (arith, ints)
-span-high Numbers low high ends (Strs lo hi) q f g m i = absurd (grind arith)
-span-high Texts low high ends (Nums lo hi) q f g m i = absurd (grind arith)
-span-high Texts low high ends s (Nums lo hi) f g m i = absurd (grind arith)
-span-high Texts low high ends Full Full f g m i = grind (arith, ints)
-span-high Texts low high ends Full (Strs lo None) f g m i = grind (arith, ints)
-span-high Texts low high ends Full (Strs lo (Some x)) f g m i =
+    → in_span q (top k high ends s) ≡ true → int_le (high_of k low high s) (high_of k low high q) ≡ true
+span-high Numbers low high nu ends Full Full d f g m i = grind (arith, ints)
+span-high Numbers low high nu ends Full (Nums lo hi) d f g m i = grind (arith, ints)
+span-high Numbers low high nu ends s (Strs lo hi) d f g m i = absurd (grind arith)
+span-high Numbers low high nu ends (Nums lo hi) Full d f g m i = grind (arith, ints)
+span-high Numbers low high nu ends (Nums lo hi) (Nums lo2 hi2) d f g m i = grind (arith, ints)
+span-high Numbers low high nu ends (Strs lo hi) q d f g m i = absurd (grind arith)
+span-high Texts low high nu ends (Nums lo hi) q d f g m i = absurd (grind arith)
+span-high Texts low high nu ends s (Nums lo hi) d f g m i = absurd (grind arith)
+span-high Texts low high nu ends Full Full d f g m i = grind (arith, ints)
+span-high Texts low high nu ends Full (Strs lo None) d f g m i = grind (arith, ints)
+span-high Texts low high nu ends Full (Strs lo (Some x)) d f g m i =
     let b = best-is [] None ends refl in let z = m x (λ y. not (is_below y None) || text_le y (best [] None ends)) refl b.2 in absurd (grind (arith, z))
-span-high Texts low high ends (Strs lo h) Full f g m i = high-none h (grind arith)
-span-high Texts low high ends (Strs lo h) (Strs lo2 None) f g m i = high-none h (grind arith)
-span-high Texts low high ends (Strs lo h) (Strs lo2 (Some x)) f g m i =
+span-high Texts low high nu ends (Strs lo h) Full d f g m i = high-none h (grind arith)
+span-high Texts low high nu ends (Strs lo h) (Strs lo2 None) d f g m i = high-none h (grind arith)
+span-high Texts low high nu ends (Strs lo h) (Strs lo2 (Some x)) d f g m i =
     let b = best-is lo h ends (grind arith) in let z = m x (λ y. not (is_below y h) || text_le y (best lo h ends)) refl b.2 in
     text-high h x (best lo h ends) z (grind arith) (grind arith) (grind arith)
+span-high Numbers low high nu ends Null Full d f g m i = let x = d refl in grind (arith, ints, x)
+span-high Texts low high nu ends Null Full d f g m i = grind (arith, ints)
+span-high Numbers low high nu ends Null (Nums lo hi) d f g m i = absurd (cc)
+span-high Texts low high nu ends Null (Strs lo hi) d f g m i = absurd (cc)
+span-high Numbers low high nu ends Null Null d f g m i = grind (arith, ints)
+span-high Texts low high nu ends Null Null d f g m i = grind (arith, ints)
+span-high Numbers low high nu ends Full Null d f g m i = absurd (cc)
+span-high Numbers low high nu ends (Nums lo hi) Null d f g m i = absurd (cc)
+span-high Texts low high nu ends Full Null d f g m i = absurd (cc)
+span-high Texts low high nu ends (Strs lo hi) Null d f g m i = absurd (cc)
 
 greatest-all : (t : ℤ → Bool) (x : ℤ) (xs : List ℤ) → list_all t (x ∷ xs) ≡ true → t (greatest x xs) ≡ true
 greatest-all t x [] h = grind arith
@@ -228,30 +252,32 @@ greatest-le x y xs ys h = greatest-all (λ u. int_le u (greatest y ys)) x xs (wa
 abbrev val_at : List Column → ℕ → List Cell → ℤ
 val_at [] k p = pos 0
 val_at (c ∷ cs) k [] = pos 0
-val_at (c ∷ cs) zero (v ∷ p) = val v
+val_at (c ∷ cs) zero (v ∷ p) = val c.kind c.lo v
 val_at (c ∷ cs) (suc k) (v ∷ p) = val_at cs k p
 
 rect-low : (cs : List Column) (k : ℕ) (q : List Span) (p : List Cell) → rect_fits cs q ≡ true → is_point cs p ≡ true → in_rect q p ≡ true → int_le (low_at cs k q) (val_at cs k p) ≡ true
 rect-low [] k q p f i h = grind (arith, ints)
 rect-low (c ∷ cs) k [] p f i h = absurd (grind arith)
 rect-low (c ∷ cs) k (s ∷ q) [] f i h = absurd (grind arith)
-rect-low (c ∷ cs) zero (s ∷ q) (v ∷ p) f i h = span-low c.kind c.lo c.hi s v (grind arith) (grind arith) (grind arith)
+rect-low (c ∷ cs) zero (s ∷ q) (v ∷ p) f i h = span-low c.kind c.lo c.hi c.nullable s v (grind arith) (grind arith) (grind arith)
 rect-low (c ∷ cs) (suc k) (s ∷ q) (v ∷ p) f i h = rect-low cs k q p (grind arith) (grind arith) (grind arith)
 
-cell_low-val : (k : Kind) (low high : ℤ) (s : Span) → fits_kind k low high s ≡ true → val (cell_low k low s) ≡ low_of k low s
+cell_low-val : (k : Kind) (low high : ℤ) (nu : Bool) (s : Span) → fits_kind k low high nu s ≡ true → val k low (cell_low k low s) ≡ low_of k low s
 unfolding cell_low
-cell_low-val Numbers low high Full f = refl
-cell_low-val Texts low high Full f = refl
-cell_low-val Numbers low high (Nums lo hi) f = refl
-cell_low-val Texts low high (Nums lo hi) f = absurd (grind arith)
-cell_low-val Numbers low high (Strs lo hi) f = absurd (grind arith)
-cell_low-val Texts low high (Strs lo hi) f = refl
+cell_low-val Numbers low high nu Full f = refl
+cell_low-val Texts low high nu Full f = refl
+cell_low-val Numbers low high nu (Nums lo hi) f = refl
+cell_low-val Texts low high nu (Nums lo hi) f = absurd (grind arith)
+cell_low-val Numbers low high nu (Strs lo hi) f = absurd (grind arith)
+cell_low-val Texts low high nu (Strs lo hi) f = refl
+cell_low-val Numbers low high nu Null f = refl
+cell_low-val Texts low high nu Null f = refl
 
 low_point-val : (cs : List Column) (k : ℕ) (r : List Span) → rect_fits cs r ≡ true → val_at cs k (low_point cs r) ≡ low_at cs k r
 unfolding low_point
 low_point-val [] k r f = refl
 low_point-val (c ∷ cs) k [] f = absurd (grind arith)
-low_point-val (c ∷ cs) zero (s ∷ r) f = cell_low-val c.kind c.lo c.hi s (grind arith)
+low_point-val (c ∷ cs) zero (s ∷ r) f = cell_low-val c.kind c.lo c.hi c.nullable s (grind arith)
 low_point-val (c ∷ cs) (suc k) (s ∷ r) f = low_point-val cs k r (grind arith)
 
 any-low : (cs : List Column) (k : ℕ) (b : List (List Span)) (p : List Cell) → list_all (rect_fits cs) b ≡ true → is_point cs p ≡ true → in_any b p ≡ true → list_any (λ v. int_le v (val_at cs k p)) (map (low_at cs k) b) ≡ true
@@ -282,34 +308,34 @@ top_point (c ∷ cs) k ends [] = []
 top_point (c ∷ cs) zero ends (s ∷ r) = top c.kind c.hi ends s ∷ low_point cs r
 top_point (c ∷ cs) (suc k) ends (s ∷ r) = cell_low c.kind c.lo s ∷ top_point cs k ends r
 
-first-le : (k : Kind) (low high : ℤ) (s : Span) → fits_kind k low high s ≡ true → in_kind k low high (first_value k low) ≡ true → (k ≡ Numbers → int_le low high ≡ true)
-first-le Numbers low high s f h e = grind arith
-first-le Texts low high s f h e = absurd (cc)
+first-le : (k : Kind) (low high : ℤ) (nu : Bool) (s : Span) → fits_kind k low high nu s ≡ true → in_kind k low high nu (first_value k low) ≡ true → (k ≡ Numbers → int_le low high ≡ true)
+first-le Numbers low high nu s f h e = grind arith
+first-le Texts low high nu s f h e = absurd (cc)
 
 top_point-in : (cs : List Column) (k : ℕ) (ends : List (List ℕ)) (r : List Span) → rect_fits cs r ≡ true → have_first cs ≡ true → list_all are_bytes ends ≡ true → (in_rect r (top_point cs k ends r) ≡ true) × (is_point cs (top_point cs k ends r) ≡ true)
 top_point-in [] k ends [] f h e = (refl, refl)
 top_point-in [] k ends (s ∷ r) f h e = absurd (grind arith)
 top_point-in (c ∷ cs) k ends [] f h e = absurd (grind arith)
 top_point-in (c ∷ cs) zero ends (s ∷ r) f h e =
-    let t = top-in c.kind c.lo c.hi ends s (grind arith) (first-le c.kind c.lo c.hi s (grind arith) (grind arith)) e in let m = low-point cs r (grind arith) (grind arith) in
+    let t = top-in c.kind c.lo c.hi c.nullable ends s (grind arith) (first-le c.kind c.lo c.hi c.nullable s (grind arith) (grind arith)) e in let m = low-point cs r (grind arith) (grind arith) in
     let a = t.0 in let b = t.1 in let x = m.0 in let y = m.1 in (grind (arith, a, x), grind (arith, b, y))
 top_point-in (c ∷ cs) (suc k) ends (s ∷ r) f h e =
-    let t = low-in c.kind c.lo c.hi s (grind arith) (grind arith) in let m = top_point-in cs k ends r (grind arith) (grind arith) e in
+    let t = low-in c.kind c.lo c.hi c.nullable s (grind arith) (grind arith) in let m = top_point-in cs k ends r (grind arith) (grind arith) e in
     let a = t.0 in let b = t.1 in let x = m.0 in let y = m.1 in (grind (arith, a, x), grind (arith, b, y))
 
 rect-high : (cs : List Column) (k : ℕ) (ends : List (List ℕ)) (r q : List Span) → rect_fits cs r ≡ true → rect_fits cs q ≡ true
-    → ((x : List ℕ) (t : List ℕ → Bool) → end_of (span_at k q) ≡ x ∷ [] → list_all t ends ≡ true → t x ≡ true)
+    → have_first cs ≡ true → ((x : List ℕ) (t : List ℕ → Bool) → end_of (span_at k q) ≡ x ∷ [] → list_all t ends ≡ true → t x ≡ true)
     → in_rect q (top_point cs k ends r) ≡ true → int_le (high_at cs k r) (high_at cs k q) ≡ true
-rect-high [] k ends r q f g m i = grind (arith, ints)
-rect-high (c ∷ cs) k ends [] q f g m i = absurd (grind arith)
-rect-high (c ∷ cs) k ends (s ∷ r) [] f g m i = absurd (grind arith)
-rect-high (c ∷ cs) zero ends (s ∷ r) (u ∷ q) f g m i = span-high c.kind c.lo c.hi ends s u (grind arith) (grind arith) m (grind arith)
-rect-high (c ∷ cs) (suc k) ends (s ∷ r) (u ∷ q) f g m i = rect-high cs k ends r q (grind arith) (grind arith) m (grind arith)
+rect-high [] k ends r q f g d m i = grind (arith, ints)
+rect-high (c ∷ cs) k ends [] q f g d m i = absurd (grind arith)
+rect-high (c ∷ cs) k ends (s ∷ r) [] f g d m i = absurd (grind arith)
+rect-high (c ∷ cs) zero ends (s ∷ r) (u ∷ q) f g d m i = span-high c.kind c.lo c.hi c.nullable ends s u (first-le c.kind c.lo c.hi c.nullable s (grind arith) (grind arith)) (grind arith) (grind arith) m (grind arith)
+rect-high (c ∷ cs) (suc k) ends (s ∷ r) (u ∷ q) f g d m i = rect-high cs k ends r q (grind arith) (grind arith) (grind arith) m (grind arith)
 
-any-high : (cs : List Column) (k : ℕ) (ends : List (List ℕ)) (r : List Span) (b : List (List Span)) → rect_fits cs r ≡ true → list_all (rect_fits cs) b ≡ true
+any-high : (cs : List Column) (k : ℕ) (ends : List (List ℕ)) (r : List Span) (b : List (List Span)) → rect_fits cs r ≡ true → list_all (rect_fits cs) b ≡ true → have_first cs ≡ true
     → ((t : List ℕ → Bool) → list_all t ends ≡ true → list_all t (ends_at k b) ≡ true) → in_any b (top_point cs k ends r) ≡ true → list_any (λ v. int_le (high_at cs k r) v) (map (high_at cs k) b) ≡ true
-any-high cs k ends r [] f g m h = absurd (grind arith)
-any-high cs k ends r (q ∷ b) f g m h = go (in_rect q (top_point cs k ends r)) refl h (any-high cs k ends r b f (grind arith) (λ t a. back t (end_of (span_at k q)) (ends_at k b) (m t a)))
+any-high cs k ends r [] f g d m h = absurd (grind arith)
+any-high cs k ends r (q ∷ b) f g d m h = go (in_rect q (top_point cs k ends r)) refl h (any-high cs k ends r b f (grind arith) d (λ t a. back t (end_of (span_at k q)) (ends_at k b) (m t a)))
   where
     back : (t : List ℕ → Bool) (xs ys : List (List ℕ)) → list_all t (xs ++ ys) ≡ true → list_all t ys ≡ true
     back t [] ys h = h
@@ -322,20 +348,21 @@ any-high cs k ends r (q ∷ b) f g m h = go (in_rect q (top_point cs k ends r)) 
     go : (o : Bool) → in_rect q (top_point cs k ends r) ≡ o → (o || in_any b (top_point cs k ends r)) ≡ true
         → (in_any b (top_point cs k ends r) ≡ true → list_any (λ v. int_le (high_at cs k r) v) (map (high_at cs k) b) ≡ true)
         → (int_le (high_at cs k r) (high_at cs k q) || list_any (λ v. int_le (high_at cs k r) v) (map (high_at cs k) b)) ≡ true
-    go true e o ih = let y = rect-high cs k ends r q f (grind arith) (λ x t w a. front t x (end_of (span_at k q)) (ends_at k b) w (m t a)) e in grind (arith, y)
+    go true e o ih = let y = rect-high cs k ends r q f (grind arith) d (λ x t w a. front t x (end_of (span_at k q)) (ends_at k b) w (m t a)) e in grind (arith, y)
     go false e o ih = let y = ih o in grind (arith, y)
 
-end-bytes : (k : Kind) (low high : ℤ) (s : Span) → fits_kind k low high s ≡ true → list_all are_bytes (end_of s) ≡ true
-end-bytes k low high Full f = refl
-end-bytes k low high (Nums lo hi) f = refl
-end-bytes k low high (Strs lo None) f = refl
-end-bytes Numbers low high (Strs lo (Some hi)) f = absurd (grind arith)
-end-bytes Texts low high (Strs lo (Some hi)) f = grind arith
+end-bytes : (k : Kind) (low high : ℤ) (nu : Bool) (s : Span) → fits_kind k low high nu s ≡ true → list_all are_bytes (end_of s) ≡ true
+end-bytes k low high nu Full f = refl
+end-bytes k low high nu (Nums lo hi) f = refl
+end-bytes k low high nu (Strs lo None) f = refl
+end-bytes Numbers low high nu (Strs lo (Some hi)) f = absurd (grind arith)
+end-bytes Texts low high nu (Strs lo (Some hi)) f = grind arith
+end-bytes k low high nu Null f = refl
 
 span-bytes : (cs : List Column) (k : ℕ) (q : List Span) → rect_fits cs q ≡ true → list_all are_bytes (end_of (span_at k q)) ≡ true
 span-bytes cs k [] f = refl
 span-bytes [] k (s ∷ q) f = absurd (grind arith)
-span-bytes (c ∷ cs) zero (s ∷ q) f = end-bytes c.kind c.lo c.hi s (grind arith)
+span-bytes (c ∷ cs) zero (s ∷ q) f = end-bytes c.kind c.lo c.hi c.nullable s (grind arith)
 span-bytes (c ∷ cs) (suc k) (s ∷ q) f = span-bytes cs k q (grind arith)
 
 ends-bytes : (cs : List Column) (k : ℕ) (b : List (List Span)) → list_all (rect_fits cs) b ≡ true → list_all are_bytes (ends_at k b) ≡ true
@@ -347,7 +374,7 @@ highs : (cs : List Column) (k : ℕ) (a b : List (List Span)) → have_first cs 
 highs cs k [] b d f g h = refl
 highs cs k (r ∷ a) b d f g h =
     let ih = highs cs k a b d (grind arith) g (λ p i o. h p i (grind (arith, o))) in let tp = top_point-in cs k (ends_at k b) r (grind arith) d (ends-bytes cs k b g) in
-    let one = any-high cs k (ends_at k b) r b (grind arith) g (λ t e. e) (h (top_point cs k (ends_at k b) r) tp.1 (let x = tp.0 in grind (arith, x))) in grind (arith, ih, one)
+    let one = any-high cs k (ends_at k b) r b (grind arith) g d (λ t e. e) (h (top_point cs k (ends_at k b) r) tp.1 (let x = tp.0 in grind (arith, x))) in grind (arith, ih, one)
 
 same-int : (x y : ℤ) → int_le x y ≡ true → int_le y x ≡ true → x ≡ y
 same-int x y a b = grind (arith, ints)
@@ -396,22 +423,26 @@ is_wide z = int_lt (pos 0 -ℤ pos (2 ^ 62)) z && int_lt z (pos (2 ^ 62))
 text-wide : (s : List ℕ) → are_bytes s ≡ true → is_wide (pos (first_bytes s)) ≡ true
 text-wide s b = let m = (mono s s b b (text_le-refl s)).1 in grind (arith, ints, m)
 
-low-wide : (k : Kind) (low high : ℤ) (s : Span) → fits_kind k low high s ≡ true → is_inner_kind k low high ≡ true → in_kind k low high (first_value k low) ≡ true → is_wide (low_of k low s) ≡ true
-low-wide Numbers low high Full f i d = grind (arith, ints)
-low-wide Numbers low high (Nums lo hi) f i d = grind (arith, ints)
-low-wide Numbers low high (Strs lo hi) f i d = absurd (grind arith)
-low-wide Texts low high Full f i d = refl
-low-wide Texts low high (Nums lo hi) f i d = absurd (grind arith)
-low-wide Texts low high (Strs lo hi) f i d = text-wide lo (grind arith)
+low-wide : (k : Kind) (low high : ℤ) (nu : Bool) (s : Span) → fits_kind k low high nu s ≡ true → is_inner_kind k low high ≡ true → in_kind k low high nu (first_value k low) ≡ true → is_wide (low_of k low s) ≡ true
+low-wide Numbers low high nu Full f i d = grind (arith, ints)
+low-wide Numbers low high nu (Nums lo hi) f i d = grind (arith, ints)
+low-wide Numbers low high nu (Strs lo hi) f i d = absurd (grind arith)
+low-wide Texts low high nu Full f i d = refl
+low-wide Texts low high nu (Nums lo hi) f i d = absurd (grind arith)
+low-wide Texts low high nu (Strs lo hi) f i d = text-wide lo (grind arith)
+low-wide Numbers low high nu Null f i d = grind (arith, ints)
+low-wide Texts low high nu Null f i d = refl
 
-high-wide : (k : Kind) (low high : ℤ) (s : Span) → fits_kind k low high s ≡ true → is_inner_kind k low high ≡ true → in_kind k low high (first_value k low) ≡ true → is_wide (high_of k high s) ≡ true
-high-wide Numbers low high Full f i d = grind (arith, ints)
-high-wide Numbers low high (Nums lo hi) f i d = grind (arith, ints)
-high-wide Numbers low high (Strs lo hi) f i d = absurd (grind arith)
-high-wide Texts low high Full f i d = refl
-high-wide Texts low high (Nums lo hi) f i d = absurd (grind arith)
-high-wide Texts low high (Strs lo None) f i d = refl
-high-wide Texts low high (Strs lo (Some hi)) f i d = text-wide hi (grind arith)
+high-wide : (k : Kind) (low high : ℤ) (nu : Bool) (s : Span) → fits_kind k low high nu s ≡ true → is_inner_kind k low high ≡ true → in_kind k low high nu (first_value k low) ≡ true → is_wide (high_of k low high s) ≡ true
+high-wide Numbers low high nu Full f i d = grind (arith, ints)
+high-wide Numbers low high nu (Nums lo hi) f i d = grind (arith, ints)
+high-wide Numbers low high nu (Strs lo hi) f i d = absurd (grind arith)
+high-wide Texts low high nu Full f i d = refl
+high-wide Texts low high nu (Nums lo hi) f i d = absurd (grind arith)
+high-wide Texts low high nu (Strs lo None) f i d = refl
+high-wide Texts low high nu (Strs lo (Some hi)) f i d = text-wide hi (grind arith)
+high-wide Numbers low high nu Null f i d = grind (arith, ints)
+high-wide Texts low high nu Null f i d = refl
 
 all-wide : (f : Rect → ℤ) (t : Rect → Bool) (rects : List Rect) → ((r : Rect) → t r ≡ true → is_wide (f r) ≡ true) → list_all t rects ≡ true → list_all is_wide (map f rects) ≡ true
 all-wide f t [] h a = refl
@@ -421,9 +452,9 @@ middle-wide : (c : Column) (k : ℕ) (r : Rect) (rects : List Rect) → list_all
     → (is_wide (least_low c k r rects) ≡ true) × (is_wide (greatest_high c k r rects) ≡ true)
 middle-wide c k r rects f i d = (
   least-all is_wide (low_of c.kind c.lo (span_at k r)) (map (λ q. low_of c.kind c.lo (span_at k q)) rects)
-      (all-wide (λ q. low_of c.kind c.lo (span_at k q)) (λ q. span_fits c (span_at k q)) (r ∷ rects) (λ q e. low-wide c.kind c.lo c.hi (span_at k q) e i d) f),
-  greatest-all is_wide (high_of c.kind c.hi (span_at k r)) (map (λ q. high_of c.kind c.hi (span_at k q)) rects)
-      (all-wide (λ q. high_of c.kind c.hi (span_at k q)) (λ q. span_fits c (span_at k q)) (r ∷ rects) (λ q e. high-wide c.kind c.lo c.hi (span_at k q) e i d) f),
+      (all-wide (λ q. low_of c.kind c.lo (span_at k q)) (λ q. span_fits c (span_at k q)) (r ∷ rects) (λ q e. low-wide c.kind c.lo c.hi c.nullable (span_at k q) e i d) f),
+  greatest-all is_wide (high_of c.kind c.lo c.hi (span_at k r)) (map (λ q. high_of c.kind c.lo c.hi (span_at k q)) rects)
+      (all-wide (λ q. high_of c.kind c.lo c.hi (span_at k q)) (λ q. span_fits c (span_at k q)) (r ∷ rects) (λ q e. high-wide c.kind c.lo c.hi c.nullable (span_at k q) e i d) f),
 )
 
 fits-sum : (x y : ℤ) → (pos 0 -ℤ pos (2 ^ 62)) <ℤ x → x <ℤ pos (2 ^ 62) → (pos 0 -ℤ pos (2 ^ 62)) <ℤ y → y <ℤ pos (2 ^ 62) → FitsSigned w64 (x +ℤ y)
@@ -458,7 +489,7 @@ ends-behind f k [] = refl
 ends-behind f k (r ∷ rects) = rw (first-behind k r, ends-behind f k rects) refl
 
 middle-behind : (c : Column) (k : ℕ) (r : Rect) (rects : List Rect) → middle c (drop k r) (map (drop k) rects) ≡ middle_at c k r rects
-middle-behind c k r rects = rw (ends-behind (low_of c.kind c.lo) k rects, ends-behind (high_of c.kind c.hi) k rects, first-behind k r) refl
+middle-behind c k r rects = rw (ends-behind (low_of c.kind c.lo) k rects, ends-behind (high_of c.kind c.lo c.hi) k rects, first-behind k r) refl
 
 map-none : (rects : List Rect) → map (drop 0) rects ≡ rects
 map-none [] = refl

@@ -33,7 +33,7 @@ more-among : (cs : List Column) (r : List Span) (a b : List (List Span)) → rec
 more-among [] r a b f h k = tt
 more-among (c ∷ cs) [] a b f h k = absurd (grind arith)
 more-among (c ∷ cs) (s ∷ r) a b f h k =
-    ((λ v e. let x = is_among-append (cuts_of c.kind c.lo c.hi s) (first_cuts c a) v in let y = h.0 v in let z = k.0 v in grind (arith, e, x, y, z)), more-among cs r (others a) (others b) (grind arith) h.1 k.1)
+    ((λ v e. let x = is_among-append (cuts_of c.kind c.lo c.hi c.nullable s) (first_cuts c a) v in let y = h.0 v in let z = k.0 v in grind (arith, e, x, y, z)), more-among cs r (others a) (others b) (grind arith) h.1 k.1)
 
 pub are-among : (cs : List Column) (given rs : List (List Span)) → AreCutFrom cs given rs → AllAmong cs rs given
 are-among cs given [] h = nil-among cs given

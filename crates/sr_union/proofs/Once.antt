@@ -9,7 +9,8 @@ use Rattle.sr_cell.specs.Cells.{Row}
 use Rattle.sr_cell.specs.Columns.{is_point}
 use Rattle.sr_box.specs.Points.{Rect, in_rect, in_any, rect_fits, times}
 use Rattle.sr_union.specs.Pieces.{IsMinus, IsOnce}
-use Rattle.sr_union.specs.Grid.{others, grid, CutsAmong, AreCutFrom, have_first}
+use Rattle.sr_box.specs.Corners.{have_first}
+use Rattle.sr_union.specs.Grid.{others, grid, CutsAmong, AreCutFrom}
 use Rattle.sr_union.proofs.Times.{times-append, in_any-times}
 use Rattle.sr_union.proofs.Count.{length-grid}
 use Rattle.sr_union.proofs.Monotone.{AllAmong, grid-le, are-among}

@@ -1,6 +1,7 @@
 -- What a search for a point outside finds.
 use Rattle.std.proofs.Common.{◌≡◌, ℕ, ◌<◌, ◌+◌, zero, suc, true, false, List, [], ◌∷◌, ◌++◌, length, drop, take, refl, arith, ◌∙◌, sym, ap, subst, slice_index_or, append_assoc}
-use Rattle.std.specs.Prelude.{Bool, ◌&&◌, ◌||◌, IsTrue, if◌then◌else◌}
+use Rattle.std.specs.Prelude.{Bool, ◌&&◌, ◌||◌, ◌==◌, IsTrue, Option, Some, None, if◌then◌else◌}
+use Rattle.std.proofs.lemmas.Bool.{and_from, and_parts, eq-eqb, eqb-true}
 use Rattle.std.specs.List.{list_all, sum_by}
 use Rattle.std.proofs.lemmas.List.{append-nil, take_more, take_all}
 use Rattle.std.proofs.lemmas.List.Folds.{list_all-append}
@@ -8,12 +9,15 @@ use Rattle.std.proofs.lemmas.List.Sums.{sum_by-append, sum_by-cons}
 use Rattle.sr_cell.specs.declared.table.Column.{Column}
 use Rattle.sr_cell.specs.Cells.{Row}
 use Rattle.sr_box.specs.Points.{Rect, rect_fits, in_rect, in_any}
-use Rattle.sr_union.specs.Pieces.{meets, rect_minus, minus_one, minus_each, minus_all, IsWithin, HasOutside}
-use Rattle.sr_union.specs.Grid.{have_first}
+use Rattle.sr_box.specs.declared.span.Span.{Span}
+use Rattle.sr_box.specs.Cut.{meet, under, over}
+use Rattle.sr_cell.proofs.Numbers.{eqb_same}
+use Rattle.sr_union.specs.Pieces.{with_front, fronts, with_fronts, beyond_in, above, meets, rect_minus, minus_one, minus_each, minus_all, IsWithin, HasOutside}
+use Rattle.sr_box.specs.Corners.{have_first}
 use Rattle.sr_union.specs.Search.{from_met, is_nothing, is_covered, is_done, todos, steps, steps_of}
 use Rattle.sr_union.proofs.Times.{minus_all-times}
-use Rattle.sr_union.proofs.Among.{rect_minus-are}
-use Rattle.sr_union.proofs.Parts.{left_are, are_fit, are_part}
+use Rattle.sr_union.proofs.Inner.{fits_length}
+use Rattle.sr_union.proofs.Parts.{left_are, are_fit}
 use Rattle.sr_union.proofs.Within.{within_from, outside_from}
 use Rattle.sr_union.specs.declared.search.Todo.{Todo}
 
@@ -92,19 +96,19 @@ nothing-not : (rs : List Rect) → is_nothing rs ≡ false → rs ≡ [] → ⊥
 nothing-not [] h e = absurd (cc)
 nothing-not (r ∷ rs) h e = absurd (cc)
 
-fit_left : (cs : List Column) (r : Rect) (qs : List Rect) → rect_fits cs r ≡ true → list_all (rect_fits cs) qs ≡ true → list_all (rect_fits cs) (minus_all cs (r ∷ []) qs) ≡ true
-fit_left cs r qs f g = subst (λ all. list_all (rect_fits cs) (minus_all cs (r ∷ []) all) ≡ true) (take_all (length qs) qs (omega arith))
-    (are_fit cs ((r ∷ []) ++ qs) (minus_all cs (r ∷ []) (take (length qs) qs)) (left_are cs (r ∷ []) qs (length qs) (grind (arith, f)) g))
+fit_left : (cs : List Column) (r : Rect) (qs : List Rect) → have_first cs ≡ true → rect_fits cs r ≡ true → list_all (rect_fits cs) qs ≡ true → list_all (rect_fits cs) (minus_all cs (r ∷ []) qs) ≡ true
+fit_left cs r qs d f g = subst (λ all. list_all (rect_fits cs) (minus_all cs (r ∷ []) all) ≡ true) (take_all (length qs) qs (omega arith))
+    (are_fit cs ((r ∷ []) ++ qs) (minus_all cs (r ∷ []) (take (length qs) qs)) (left_are cs (r ∷ []) qs (length qs) d (grind (arith, f)) g))
 
 pub covered-within : (cs : List Column) (r : Rect) (qs : List Rect) → have_first cs ≡ true → rect_fits cs r ≡ true → list_all (rect_fits cs) qs ≡ true
     → is_covered cs qs r ≡ true → IsWithin cs (r ∷ []) qs
 covered-within cs r qs d f g h =
-    (within_from cs (r ∷ []) qs (minus_all cs (r ∷ []) qs) d (λ p e. minus_all-times cs (r ∷ []) qs p g e) (fit_left cs r qs f g)).0 (nothing-is (minus_all cs (r ∷ []) qs) h)
+    (within_from cs (r ∷ []) qs (minus_all cs (r ∷ []) qs) d (λ p e. minus_all-times cs (r ∷ []) qs p g e) (fit_left cs r qs d f g)).0 (nothing-is (minus_all cs (r ∷ []) qs) h)
 
 pub covered-outside : (cs : List Column) (r : Rect) (qs : List Rect) → have_first cs ≡ true → rect_fits cs r ≡ true → list_all (rect_fits cs) qs ≡ true
     → is_covered cs qs r ≡ false → HasOutside cs (r ∷ []) qs
 covered-outside cs r qs d f g h =
-    outside_from cs (r ∷ []) qs (minus_all cs (r ∷ []) qs) d (λ p e. minus_all-times cs (r ∷ []) qs p g e) (fit_left cs r qs f g) (nothing-not (minus_all cs (r ∷ []) qs) h)
+    outside_from cs (r ∷ []) qs (minus_all cs (r ∷ []) qs) d (λ p e. minus_all-times cs (r ∷ []) qs p g e) (fit_left cs r qs d f g) (nothing-not (minus_all cs (r ∷ []) qs) h)
 
 pub fits_at : (cs : List Column) (qs : List Rect) (i : ℕ) (d : Rect) → list_all (rect_fits cs) qs ≡ true → i < length qs → rect_fits cs (slice_index_or qs i d) ≡ true
 fits_at cs [] i d f h = absurd (omega arith)
@@ -137,10 +141,6 @@ popped p todo left t e = ap (list_all p) e ∙ (list_all-append p left (t ∷ []
     and_true : (a b : Bool) → (a && (b && true)) ≡ (a && b)
     and_true a b = grind arith
 
-pub popped_fits : (cs : List Column) (todo left : List Todo) (t : Todo) → todo ≡ left ++ t ∷ [] → list_all (λ (t : Todo). rect_fits cs t.rect) todo ≡ true
-    → (list_all (λ (t : Todo). rect_fits cs t.rect) left ≡ true) × (rect_fits cs t.rect ≡ true)
-popped_fits cs todo left t e f = let x = popped (λ (t : Todo). rect_fits cs t.rect) todo left t e in (grind (arith, x, f), grind (arith, x, f))
-
 -- a rect that meets none of the others decides
 pub ends : (cs : List Column) (others : List Rect) (todo left : List Todo) (t : Todo) → todo ≡ left ++ t ∷ [] → from_met t.rect (drop t.from others) ≡ [] → list_all (is_done cs others) todo ≡ false
 ends cs others todo left t e h = let x = popped (is_done cs others) todo left t e in let y = unmet cs t.rect (drop t.from others) h in grind (arith, x, y)
@@ -168,24 +168,69 @@ smaller cs others todo left next t at q pieces e l h is p n =
     let d = ap (sum_by (steps_of cs others)) e ∙ (sum_by-append (steps_of cs others) left (t ∷ []) ∙ ap (λ k. sum_by (steps_of cs others) left + k) (sum_by-cons (steps_of cs others) t [])) in
     omega (arith, m, a, b, d)
 
-todos_fit : (cs : List Column) (from : ℕ) (pieces : List Rect) → list_all (rect_fits cs) pieces ≡ true → list_all (λ (t : Todo). rect_fits cs t.rect) (todos from pieces) ≡ true
-todos_fit cs from [] f = refl
-todos_fit cs from (r ∷ pieces) f = let ih = todos_fit cs from pieces (grind (arith, f)) in grind (arith, f, ih)
+-- ---- rects that are searched have a span for each column
 
-pieces_fit : (cs : List Column) (r q : Rect) → rect_fits cs r ≡ true → rect_fits cs q ≡ true → list_all (rect_fits cs) (rect_minus cs r q) ≡ true
-pieces_fit cs r q f g =
-    let are = are_part cs [] (r ∷ q ∷ []) [] (grind (arith, f, g)) in
-    are_fit cs (r ∷ q ∷ []) (rect_minus cs r q) (rect_minus-are cs (r ∷ q ∷ []) r q f g are.1 are.2.1)
+-- so many spans
+abbrev is_wide : ℕ → Rect → Bool
+is_wide n r = length r == n
 
-pub goes_on_fits : (cs : List Column) (todo left next : List Todo) (t : Todo) (from : ℕ) (q : Rect) (pieces : List Rect) → todo ≡ left ++ t ∷ [] → list_all (λ (t : Todo). rect_fits cs t.rect) todo ≡ true
-    → rect_fits cs q ≡ true → pieces ≡ rect_minus cs t.rect q → next ≡ left ++ todos from pieces → list_all (λ (t : Todo). rect_fits cs t.rect) next ≡ true
-goes_on_fits cs todo left next t from q pieces e f g p n =
-    let x = popped_fits cs todo left t e f in
-    let y = todos_fit cs from pieces (subst (λ ps. list_all (rect_fits cs) ps ≡ true) (sym p) (pieces_fit cs t.rect q x.1 g)) in
-    ap (list_all (λ (t : Todo). rect_fits cs t.rect)) n ∙ (list_all-append (λ (t : Todo). rect_fits cs t.rect) left (todos from pieces) ∙ both (list_all (λ (t : Todo). rect_fits cs t.rect) left) (list_all (λ (t : Todo). rect_fits cs t.rect) (todos from pieces)) x.0 y)
-  where
-    both : (a b : Bool) → a ≡ true → b ≡ true → (a && b) ≡ true
-    both a b x y = grind (arith, x, y)
+abbrev pub is_wide_todo : ℕ → Todo → Bool
+is_wide_todo n t = length t.rect == n
+
+front-wide : (m : Option Span) (r : Rect) → list_all (is_wide (suc (length r))) (with_front m r) ≡ true
+front-wide None r = refl
+front-wide (Some s) r = and_from (suc (length r) == suc (length r)) true (eqb_same (suc (length r))) refl
+
+fronts-wide : (n : ℕ) (s : Span) (rs : List Rect) → list_all (is_wide n) rs ≡ true → list_all (is_wide (suc n)) (fronts s rs) ≡ true
+fronts-wide n s [] h = refl
+fronts-wide n s (r ∷ rs) h =
+    let both = and_parts (is_wide n r) (list_all (is_wide n) rs) h in
+    and_from (suc (length r) == suc n) (list_all (is_wide (suc n)) (fronts s rs)) (eq-eqb (suc (length r)) (suc n) (ap suc (eqb-true (length r) n both.0))) (fronts-wide n s rs both.1)
+
+with_fronts-wide : (n : ℕ) (m : Option Span) (rs : List Rect) → list_all (is_wide n) rs ≡ true → list_all (is_wide (suc n)) (with_fronts m rs) ≡ true
+with_fronts-wide n None rs h = refl
+with_fronts-wide n (Some s) rs h = fronts-wide n s rs h
+
+both-wide : (n : ℕ) (a b : List Rect) → list_all (is_wide n) a ≡ true → list_all (is_wide n) b ≡ true → list_all (is_wide n) (a ++ b) ≡ true
+both-wide n a b x y = list_all-append (is_wide n) a b ∙ and_from (list_all (is_wide n) a) (list_all (is_wide n) b) x y
+
+rect_minus-wide : (cs : List Column) (r q : Rect) → list_all (is_wide (length r)) (rect_minus cs r q) ≡ true
+rect_minus-wide [] r q = refl
+rect_minus-wide (c ∷ cs) [] q = refl
+rect_minus-wide (c ∷ cs) (s ∷ r) [] = refl
+rect_minus-wide (c ∷ cs) (s ∷ r) (t ∷ q) =
+    both-wide (suc (length r)) (with_front (under c.lo s t) r) (above c s t r ++ with_fronts (meet s t) (rect_minus cs r q)) (front-wide (under c.lo s t) r)
+    (both-wide (suc (length r)) (above c s t r) (with_fronts (meet s t) (rect_minus cs r q))
+    (both-wide (suc (length r)) (with_front (over c.hi s t) r) (with_front (beyond_in c s t) r) (front-wide (over c.hi s t) r) (front-wide (beyond_in c s t) r))
+    (with_fronts-wide (length r) (meet s t) (rect_minus cs r q) (rect_minus-wide cs r q)))
+
+todos-wide : (n from : ℕ) (pieces : List Rect) → list_all (is_wide n) pieces ≡ true → list_all (is_wide_todo n) (todos from pieces) ≡ true
+todos-wide n from [] h = refl
+todos-wide n from (r ∷ pieces) h =
+    let both = and_parts (is_wide n r) (list_all (is_wide n) pieces) h in and_from (is_wide n r) (list_all (is_wide_todo n) (todos from pieces)) both.0 (todos-wide n from pieces both.1)
+
+pub start_wide : (cs : List Column) (r copy : Rect) (todo : List Todo) → rect_fits cs r ≡ true → copy ≡ r → todo ≡ record { rect = copy; from = 0 } ∷ [] → list_all (is_wide_todo (length cs)) todo ≡ true
+start_wide cs r copy todo f same is =
+    ap (list_all (is_wide_todo (length cs))) is ∙ and_from (length copy == length cs) true (eq-eqb (length copy) (length cs) (ap length same ∙ fits_length cs r f)) refl
+
+and_last : (b : Bool) → (b && true) ≡ b
+and_last true = refl
+and_last false = refl
+
+pub start_same : (cs : List Column) (others : List Rect) (r copy : Rect) (todo : List Todo) → copy ≡ r → todo ≡ record { rect = copy; from = 0 } ∷ [] → list_all (is_done cs others) todo ≡ is_covered cs others r
+start_same cs others r copy todo same is = ap (list_all (is_done cs others)) is ∙ (and_last (is_covered cs others copy) ∙ ap (is_covered cs others) same)
+
+pub popped_wide : (n : ℕ) (todo left : List Todo) (t : Todo) → todo ≡ left ++ t ∷ [] → list_all (is_wide_todo n) todo ≡ true → (list_all (is_wide_todo n) left ≡ true) × (length t.rect ≡ n)
+popped_wide n todo left t e f =
+    let both = and_parts (list_all (is_wide_todo n) left) (is_wide_todo n t) (sym (popped (is_wide_todo n) todo left t e) ∙ f) in (both.0, eqb-true (length t.rect) n both.1)
+
+pub goes_on_wide : (cs : List Column) (n : ℕ) (todo left next : List Todo) (t : Todo) (from : ℕ) (q : Rect) → todo ≡ left ++ t ∷ [] → list_all (is_wide_todo n) todo ≡ true
+    → next ≡ left ++ todos from (rect_minus cs t.rect q) → list_all (is_wide_todo n) next ≡ true
+goes_on_wide cs n todo left next t from q e f is =
+    let before = popped_wide n todo left t e f in
+    let pieces : list_all (is_wide n) (rect_minus cs t.rect q) ≡ true = subst (λ m. list_all (is_wide m) (rect_minus cs t.rect q) ≡ true) before.1 (rect_minus-wide cs t.rect q) in
+    ap (list_all (is_wide_todo n)) is ∙ (list_all-append (is_wide_todo n) left (todos from (rect_minus cs t.rect q))
+    ∙ and_from (list_all (is_wide_todo n) left) (list_all (is_wide_todo n) (todos from (rect_minus cs t.rect q))) before.0 (todos-wide n from (rect_minus cs t.rect q) pieces))
 
 -- an answer of either kind decides
 pub decided : (cs : List Column) (rs qs : List Rect) (yes : Bool) → (yes ≡ true → IsWithin cs rs qs) → (yes ≡ false → HasOutside cs rs qs) → (IsTrue yes → IsWithin cs rs qs) × (IsWithin cs rs qs → IsTrue yes)

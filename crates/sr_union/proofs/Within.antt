@@ -6,7 +6,7 @@ use Rattle.std.proofs.lemmas.Bool.Decides.{nat_tests}
 use Rattle.sr_cell.specs.declared.table.Column.{Column}
 use Rattle.sr_box.specs.Points.{Rect, in_rect, in_any, rect_fits, times}
 use Rattle.sr_union.specs.Pieces.{IsMinus, IsWithin, HasOutside}
-use Rattle.sr_union.specs.Grid.{have_first}
+use Rattle.sr_box.specs.Corners.{have_first}
 use Rattle.sr_union.proofs.Times.{in_any-times}
 use Rattle.sr_union.proofs.Low.{low_point, low-point}
 

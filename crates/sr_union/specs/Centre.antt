@@ -5,11 +5,10 @@ use Rattle.sr_cell.specs.declared.table.Kind.{Kind}
 use Rattle.sr_cell.specs.declared.table.Kind.TheVariants.{Num as Numbers, Str as Texts}
 use Rattle.sr_cell.specs.declared.table.Column.{Column}
 use Rattle.sr_box.specs.declared.span.Span.{Span}
-use Rattle.sr_box.specs.declared.span.Span.TheVariants.{Full, Nums, Strs}
+use Rattle.sr_box.specs.declared.span.Span.TheVariants.{Full, Nums, Strs, Null}
 use Rattle.sr_box.specs.Points.{Rect, in_any, rect_fits, AreSame}
-use Rattle.sr_box.specs.Corners.{first_span, other_spans}
+use Rattle.sr_box.specs.Corners.{first_span, other_spans, have_first}
 use Rattle.sr_union.specs.Free.{span_at}
-use Rattle.sr_union.specs.Grid.{have_first}
 
 -- the number of the first so many bytes, filled with zeros
 abbrev pub bytes_1 : List ℕ → ℕ
@@ -36,19 +35,24 @@ low_of Numbers low (Strs lo hi) = low
 low_of Texts low Full = pos 0
 low_of Texts low (Nums lo hi) = pos 0
 low_of Texts low (Strs lo hi) = pos (first_bytes lo)
+low_of Numbers low Null = low
+low_of Texts low Null = pos 0
 
 -- an upper end that is not there counts as 2^32
 abbrev pub high_text : Option (List ℕ) → ℤ
 high_text None = pos 4294967296
 high_text (Some hi) = pos (first_bytes hi)
 
-abbrev pub high_of : Kind → ℤ → Span → ℤ
-high_of Numbers high Full = high
-high_of Numbers high (Nums lo hi) = hi
-high_of Numbers high (Strs lo hi) = high
-high_of Texts high Full = pos 4294967296
-high_of Texts high (Nums lo hi) = pos 4294967296
-high_of Texts high (Strs lo hi) = high_text hi
+-- Null alone counts as the first number, or as 0
+abbrev pub high_of : Kind → ℤ → ℤ → Span → ℤ
+high_of Numbers low high Full = high
+high_of Numbers low high (Nums lo hi) = hi
+high_of Numbers low high (Strs lo hi) = high
+high_of Numbers low high Null = low
+high_of Texts low high Full = pos 4294967296
+high_of Texts low high (Nums lo hi) = pos 4294967296
+high_of Texts low high (Strs lo hi) = high_text hi
+high_of Texts low high Null = pos 0
 
 abbrev pub least : ℤ → List ℤ → ℤ
 least x [] = x
@@ -62,7 +66,7 @@ greatest x (y ∷ ys) = greatest (if int_le x y then y else x) ys
 abbrev pub middle : Column → Rect → List Rect → ℤ
 middle c r rects =
     least (low_of c.kind c.lo (first_span r)) (map (λ q. low_of c.kind c.lo (first_span q)) rects)
-    +ℤ greatest (high_of c.kind c.hi (first_span r)) (map (λ q. high_of c.kind c.hi (first_span q)) rects)
+    +ℤ greatest (high_of c.kind c.lo c.hi (first_span r)) (map (λ q. high_of c.kind c.lo c.hi (first_span q)) rects)
 
 abbrev pub centre_from : List Column → Rect → List Rect → List ℤ
 centre_from [] r rects = []
@@ -78,7 +82,7 @@ abbrev pub least_low : Column → ℕ → Rect → List Rect → ℤ
 least_low c k r rects = least (low_of c.kind c.lo (span_at k r)) (map (λ q. low_of c.kind c.lo (span_at k q)) rects)
 
 abbrev pub greatest_high : Column → ℕ → Rect → List Rect → ℤ
-greatest_high c k r rects = greatest (high_of c.kind c.hi (span_at k r)) (map (λ q. high_of c.kind c.hi (span_at k q)) rects)
+greatest_high c k r rects = greatest (high_of c.kind c.lo c.hi (span_at k r)) (map (λ q. high_of c.kind c.lo c.hi (span_at k q)) rects)
 
 abbrev pub middle_at : Column → ℕ → Rect → List Rect → ℤ
 middle_at c k r rects = least_low c k r rects +ℤ greatest_high c k r rects

@@ -6,22 +6,21 @@ use Rattle.sr_cell.specs.declared.table.Column.{Column}
 use Rattle.sr_cell.specs.declared.table.Kind.{Kind}
 use Rattle.sr_cell.specs.declared.table.Kind.TheVariants.{Num as Numbers, Str as Texts}
 use Rattle.sr_cell.specs.Cells.{cell_eq}
-use Rattle.sr_cell.specs.Columns.{in_column}
 use Rattle.sr_box.specs.declared.span.Span.{Span}
 use Rattle.sr_box.specs.Points.{Rect, rect_fits}
-use Rattle.sr_box.specs.Corners.{cuts_of, first_value}
+use Rattle.sr_box.specs.Corners.{cuts_of}
 
 abbrev pub is_among : List Cell → Cell → Bool
 is_among vs v = list_any (λ u. cell_eq u v) vs
 
-abbrev pub has_cut : Kind → ℤ → ℤ → Span → Cell → Bool
-has_cut k low high s v = is_among (cuts_of k low high s) v
+abbrev pub has_cut : Kind → ℤ → ℤ → Bool → Span → Cell → Bool
+has_cut k low high nullable s v = is_among (cuts_of k low high nullable s) v
 
 -- the cuts of the first spans
 abbrev pub first_cuts : Column → List Rect → List Cell
 first_cuts c [] = []
 first_cuts c ([] ∷ rects) = first_cuts c rects
-first_cuts c ((s ∷ r) ∷ rects) = cuts_of c.kind c.lo c.hi s ++ first_cuts c rects
+first_cuts c ((s ∷ r) ∷ rects) = cuts_of c.kind c.lo c.hi c.nullable s ++ first_cuts c rects
 
 -- the spans behind the first
 abbrev pub others : List Rect → List Rect
@@ -43,17 +42,12 @@ grid (c ∷ cs) rects = (1 + length (distinct (first_cuts c rects))) * grid cs (
 abbrev pub CutsAmong : List Column → Rect → List Rect → Type 0
 CutsAmong [] r rects = Unit {0}
 CutsAmong (c ∷ cs) [] rects = Unit {0}
-CutsAmong (c ∷ cs) (s ∷ r) rects = ((v : Cell) → has_cut c.kind c.lo c.hi s v ≡ true → is_among (first_cuts c rects) v ≡ true) × CutsAmong cs r (others rects)
+CutsAmong (c ∷ cs) (s ∷ r) rects = ((v : Cell) → has_cut c.kind c.lo c.hi c.nullable s v ≡ true → is_among (first_cuts c rects) v ≡ true) × CutsAmong cs r (others rects)
 
 -- rects that fit the columns, with cuts among those of the given ones
 abbrev pub AreCutFrom : List Column → List Rect → List Rect → Type 0
 AreCutFrom cs given [] = Unit {0}
 AreCutFrom cs given (r ∷ rects) = (rect_fits cs r ≡ true) × CutsAmong cs r given × AreCutFrom cs given rects
-
--- no column is empty
-abbrev pub have_first : List Column → Bool
-have_first [] = true
-have_first (c ∷ cs) = in_column c (first_value c.kind c.lo) && have_first cs
 
 -- a domain of numbers lies far inside an i64
 abbrev pub is_inner_kind : Kind → ℤ → ℤ → Bool

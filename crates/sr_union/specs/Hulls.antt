@@ -1,7 +1,7 @@
 -- Bounds of rects in the first columns.
 use Rattle.std.specs.Prelude.{pos, ◌-ℤ◌, ◌^◌, int_le, Bool, ◌&&◌}
 use Rattle.sr_box.specs.declared.span.Span.{Span}
-use Rattle.sr_box.specs.declared.span.Span.TheVariants.{Full, Nums, Strs}
+use Rattle.sr_box.specs.declared.span.Span.TheVariants.{Full, Nums, Strs, Null}
 use Rattle.sr_box.specs.Points.{Rect}
 use Rattle.sr_union.specs.declared.hull.Bound.{Bound}
 use Rattle.sr_union.specs.declared.hull.Hull.{Hull}
@@ -16,6 +16,7 @@ abbrev pub in_bound : Bound → Span → Bool
 in_bound b Full = has_all b
 in_bound b (Nums lo hi) = int_le b.lo lo && int_le hi b.hi
 in_bound b (Strs lo hi) = has_all b
+in_bound b Null = has_all b
 
 -- the first spans of the rect lie within the hull
 abbrev pub in_hull : Hull → Rect → Bool

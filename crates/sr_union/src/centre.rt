@@ -4,9 +4,9 @@ ghost use Rattle.std.specs.List.{list_all};
 ghost use Rattle.sr_box.specs.Points.{rect_fits};
 ghost use Rattle.sr_box.specs.Spans.{span_fits};
 ghost use Rattle.sr_union.specs.Free.{span_at};
-ghost use Rattle.sr_union.specs.Grid.{all_inner, have_first, is_inner};
+ghost use Rattle.sr_union.specs.Grid.{all_inner, is_inner};
 ghost use Rattle.sr_cell.specs.Columns.{in_column};
-ghost use Rattle.sr_box.specs.Corners.{first_value};
+ghost use Rattle.sr_box.specs.Corners.{first_value, have_first};
 ghost use Rattle.sr_union.specs.Centre.{first_bytes, high_text, low_of, high_of, least_low, greatest_high, middle_at, centre_from, centre_of};
 
 use crate::rects::Rects;
@@ -81,12 +81,14 @@ fn low_of(column: &Column, span: &Span) -> i64
 }
 
 fn high_of(column: &Column, span: &Span) -> i64
-    ensures { result ≡ high_of column.now.kind column.now.hi span.now }
+    ensures { result ≡ high_of column.now.kind column.now.lo column.now.hi span.now }
 {
     match (column.kind, span) {
         (Kind::Num, Span::Nums { lo: _, hi }) => *hi,
+        (Kind::Num, Span::Null) => column.lo,
         (Kind::Num, _) => column.hi,
         (Kind::Str, Span::Strs { lo: _, hi }) => high_text(hi),
+        (Kind::Str, Span::Null) => 0,
         (Kind::Str, _) => 4294967296,
     }
 }
@@ -113,7 +115,7 @@ fn low_at(column: &Column, k: usize, rect: &Rect) -> i64
 }
 
 fn high_at(column: &Column, k: usize, rect: &Rect) -> i64
-    ensures { result ≡ high_of column.now.kind column.now.hi (span_at k rect.now) }
+    ensures { result ≡ high_of column.now.kind column.now.lo column.now.hi (span_at k rect.now) }
 {
     match rect.get(k) {
         Some(span) => high_of(column, span),

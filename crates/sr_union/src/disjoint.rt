@@ -4,7 +4,8 @@ ghost use Rattle.std.specs.List.{list_all};
 ghost use Rattle.sr_cell.specs.declared.list.No.TheVariants.{Refused};
 ghost use Rattle.sr_box.specs.Points.{rect_fits};
 ghost use Rattle.sr_union.specs.Pieces.{IsMinus, IsOnce};
-ghost use Rattle.sr_union.specs.Grid.{AreCutFrom, grid, have_first, all_inner};
+ghost use Rattle.sr_box.specs.Corners.{have_first};
+ghost use Rattle.sr_union.specs.Grid.{AreCutFrom, grid, all_inner};
 
 use crate::join::with_all;
 use crate::minus::{Over, cut_all};

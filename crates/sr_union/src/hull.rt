@@ -38,8 +38,7 @@ impl Bound {
                 lo: self.lo.min(*lo),
                 hi: self.hi.max(*hi),
             },
-            Span::Full => self.all(),
-            Span::Strs { lo: _, hi: _ } => self.all(),
+            Span::Full | Span::Strs { lo: _, hi: _ } | Span::Null => self.all(),
         }
     }
 
@@ -91,7 +90,7 @@ impl Bound {
                 let number = *number;
                 self.lo <= number && number <= self.hi
             }
-            Cell::Str(_) => true,
+            Cell::Str(_) | Cell::Null => true,
         }
     }
 }
@@ -160,6 +159,20 @@ impl Hull {
             return false;
         }
         self.third.meets(&other.third)
+    }
+
+    /// Whether the rect may meet one of these.
+    pub(crate) fn may_meet(&self, rect: &Rect) -> bool
+        ensures { (q : Spans) → result ≡ false → in_hull self.now q ≡ true → is_some (rect_meet rect.now q) ≡ false }
+    {
+        let none = Bound::empty();
+        if !grown(&none, rect, 0).meets(&self.first) {
+            return false;
+        }
+        if !grown(&none, rect, 1).meets(&self.second) {
+            return false;
+        }
+        grown(&none, rect, 2).meets(&self.third)
     }
 
     /// Whether rects of these may have the row.

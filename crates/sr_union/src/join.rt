@@ -176,6 +176,7 @@ fn are_equal_numbers(one: &Span, other: &Span) -> bool {
         (Span::Full, Span::Full) => true,
         (Span::Nums { lo: a, hi: b }, Span::Nums { lo: c, hi: d }) => *a == *c && *b == *d,
         (Span::Strs { lo: _, hi: _ }, Span::Strs { lo: _, hi: _ }) => true,
+        (Span::Null, Span::Null) => true,
         _ => false,
     }
 }

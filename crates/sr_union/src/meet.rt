@@ -59,7 +59,7 @@ impl Rects {
     pub fn near(&self, alloc: Global, others: &Rects) -> Result<Rects, NoMemory>
         ensures { IfOk result (λ found. found ≡ near others.now self.now) }
     {
-        if !self.may_meet(others) {
+        if !self.meets(others) {
             return Ok(Rects::new(alloc));
         }
         copies_near(alloc, self.as_slice(), others.as_slice())

@@ -8,8 +8,9 @@ ghost use Rattle.sr_box.specs.Points.{times, rect_fits};
 ghost use Rattle.sr_cell.specs.declared.table.Column.{Column as TheColumn};
 ghost use Rattle.sr_box.specs.Cut.{meet, under, over, IsInner};
 ghost use Rattle.sr_union.specs.Free.{span_at};
-ghost use Rattle.sr_union.specs.Pieces.{rect_minus, meets, minus_one, minus_each, IsMinus, IsWithin, HasOutside};
-ghost use Rattle.sr_union.specs.Grid.{AreCutFrom, grid, have_first, all_inner};
+ghost use Rattle.sr_union.specs.Pieces.{beyond_in, rect_minus, meets, minus_one, minus_each, IsMinus, IsWithin, HasOutside};
+ghost use Rattle.sr_box.specs.Corners.{have_first};
+ghost use Rattle.sr_union.specs.Grid.{AreCutFrom, grid, all_inner};
 
 use crate::join::join_all;
 use crate::rects::Rects;
@@ -52,12 +53,14 @@ fn cut_column(
     requires inner { IsInner cut.now }
     requires is_column { place < length rect.now }
     ensures pieces { OnOk result (out.new ≡ out.old ++ (map (slice_set rect.now place) (option_to_list (under column.now.lo (span_at place rect.now) cut.now))
-        ++ map (slice_set rect.now place) (option_to_list (over column.now.hi (span_at place rect.now) cut.now)))) }
+        ++ (map (slice_set rect.now place) (option_to_list (over column.now.hi (span_at place rect.now) cut.now))
+        ++ map (slice_set rect.now place) (option_to_list (beyond_in column.now (span_at place rect.now) cut.now))))) }
     ensures both { IfOk result (λ both. both ≡ meet (span_at place rect.now) cut.now) }
 {
     let span = &rect.as_slice()[place];
     push_with(alloc, out, rect, place, span.under(alloc, cut, column.lo)?)?;
     push_with(alloc, out, rect, place, span.over(alloc, cut, column.hi)?)?;
+    push_with(alloc, out, rect, place, span.beyond(alloc, cut, column)?)?;
     span.meet(alloc, cut)
 }
 

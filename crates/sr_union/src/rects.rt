@@ -1,11 +1,12 @@
 //! Lists of rects.
 ghost use Rattle.std.specs.Prelude.{◌≡◌, ℕ, ◌<◌, ◌+◌, List, [], ◌∷◌, ◌++◌, ◌↔◌, IsTrue, length, take, drop, OnOk, OnErr, IfOk, slice_get};
-ghost use Rattle.std.specs.Prelude.{◌&&◌, false};
+ghost use Rattle.std.specs.Prelude.{◌&&◌, true, false};
 ghost use Rattle.std.specs.Option.{option_copied, is_some};
 ghost use Rattle.std.specs.List.{list_all, list_any};
 ghost use Rattle.sr_cell.specs.Cells.{Row as Cells};
 ghost use Rattle.sr_box.specs.Cut.{rect_meet};
 ghost use Rattle.sr_box.specs.Points.{in_any, rect_fits};
+ghost use Rattle.sr_union.specs.Hulls.{in_hull};
 
 use crate::hull::Hull;
 use sr_box::rect::Rect;
@@ -14,6 +15,9 @@ use sr_cell::list::{Copied, NoMemory, Same, Seq};
 use sr_cell::table::Table;
 use std::alloc::Global;
 use std::marker::Model;
+
+/// So many rects are told apart from others by one hull.
+const BLOCK: usize = 8;
 
 /// Rects of one table, which contracts see as the list of them. All lie within the hull.
 #[derive(Drop)]
@@ -167,10 +171,43 @@ pub(crate) fn meets_some(rect: &Rect, others: &[Rect]) -> bool
     others.iter().any(|other| rect.meets(other))
 }
 
+/// The hull of the rects.
+fn hull_of(rects: &[Rect]) -> Hull
+    ensures { list_all (in_hull result) rects.now ≡ true }
+{
+    let mut hull = Hull::empty();
+    for rect in rects {
+        hull = hull.with(rect);
+    }
+    hull
+}
+
+/// Whether some rect meets one of the block, whose hull tells most of them apart.
+fn meets_block(rects: &[Rect], block: &[Rect]) -> bool
+    ensures { result ≡ list_any (λ r. list_any (λ q. is_some (rect_meet r q)) block.now) rects.now }
+{
+    let hull = hull_of(block);
+    for rect in rects {
+        if hull.may_meet(rect) && meets_some(rect, block) {
+            return true;
+        }
+    }
+    false
+}
+
+/// Whether some rect meets one of the others, which are gone through block by block.
 fn lists_meet(rects: &[Rect], others: &[Rect]) -> bool
     ensures { result ≡ list_any (λ r. list_any (λ q. is_some (rect_meet r q)) others.now) rects.now }
 {
-    rects.iter().any(|rect| meets_some(rect, others))
+    let mut rest = others;
+    while !rest.is_empty() {
+        let (block, behind) = rest.split_at(rest.len().min(BLOCK));
+        if meets_block(rects, block) {
+            return true;
+        }
+        rest = behind;
+    }
+    false
 }
 
 fn some_has(rects: &[Rect], row: &Row) -> bool

@@ -3,7 +3,8 @@ ghost use Rattle.std.specs.Prelude.{◌≡◌, ℕ, ◌<◌, ◌≤◌, true, fa
 ghost use Rattle.std.specs.List.{list_all};
 ghost use Rattle.sr_box.specs.Points.{rect_fits};
 ghost use Rattle.sr_union.specs.Pieces.{rect_minus, IsWithin, HasOutside};
-ghost use Rattle.sr_union.specs.Grid.{have_first, all_inner};
+ghost use Rattle.sr_box.specs.Corners.{have_first};
+ghost use Rattle.sr_union.specs.Grid.{all_inner};
 ghost use Rattle.sr_union.specs.Search.{from_met, is_covered, todos};
 
 use crate::minus::{cut_rect, rects_meet};
@@ -54,7 +55,7 @@ fn push_pieces(
     cut: &Rect,
     from: usize,
 ) -> Result<(), NoMemory>
-    requires rect_fits { rect_fits columns.now rect ≡ true }
+    requires width { length rect ≡ length columns.now }
     requires fits { rect_fits columns.now cut.now ≡ true }
     requires inner { all_inner columns.now ≡ true }
     ensures { OnOk result (todo.new ≡ todo.old ++ todos from (rect_minus columns.now rect cut.now)) }

@@ -7,7 +7,7 @@ use Rattle.std.proofs.lemmas.Bool.{ltb-true, lt-ltb, leb-true, le-ltb, eqb-true,
 use Rattle.std.proofs.lemmas.List.{take_at, drop_at, length-append}
 use Rattle.std.specs.Cmp.{first_so, second_so}
 use Rattle.sr_cell.specs.declared.fault.Why.{Why}
-use Rattle.sr_cell.specs.declared.fault.Why.TheVariants.{LongText, BadToken, Grammar, Deep, UnknownTable, UnknownColumn, Ambiguous, WrongType, OutOfDomain, NotKeyJoin, Repeated, WrongCount, Mixed, TooWide, TooManyTables, NotAWrite, NotAQuery, DuplicateKey, DomainCell, LongCell, KeyChange, TableFull, TooManyChanges, DuplicateName, TooManyColumns, NoKey, BadDomain, BadHeader, BadRecord, BadNumber, BadUtf8}
+use Rattle.sr_cell.specs.declared.fault.Why.TheVariants.{LongText, BadToken, Grammar, Deep, UnknownTable, UnknownColumn, Ambiguous, WrongType, OutOfDomain, NotKeyJoin, Repeated, WrongCount, Mixed, TooWide, TooManyTables, NotAWrite, NotAQuery, DuplicateKey, DomainCell, LongCell, KeyChange, TableFull, TooManyChanges, DuplicateName, TooManyColumns, NoKey, BadDomain, BadHeader, BadRecord, BadNumber, BadUtf8, BadNull, NullCell}
 use Rattle.sr_cell.specs.declared.fault.Fault.{Fault}
 use Rattle.sr_cell.specs.Cells.{Row}
 use Rattle.sr_cell.specs.declared.cell.Cell.{Cell}
@@ -16,12 +16,12 @@ use Rattle.sr_box.specs.Points.{Rect}
 use Rattle.sr_message.specs.declared.message.Holding.{Holding}
 use Rattle.sr_message.specs.declared.message.AskPart.{AskPart}
 use Rattle.sr_message.specs.declared.message.Tell.{Tell}
-use Rattle.sr_bytes.specs.Reading.{Got, give, passing, a_byte, a_number, bytes_that, a_cell, a_row, some_rows, some_rects}
-use Rattle.sr_bytes.specs.Spelling.{long_bytes, count_bytes, short_count_bytes, cell_bytes, row_bytes, rows_bytes, rects_bytes, is_from_to, has_cell_bytes, has_row_bytes, have_rows_bytes, have_rects_bytes}
+use Rattle.sr_bytes.specs.Reading.{Got, give, passing, a_byte, a_number, bytes_that, a_key, a_row, some_rows, some_rects}
+use Rattle.sr_bytes.specs.Spelling.{long_bytes, count_bytes, short_count_bytes, cell_bytes, row_bytes, rows_bytes, rects_bytes, is_from_to, has_key_bytes, has_row_bytes, have_rows_bytes, have_rects_bytes}
 use Rattle.sr_bytes.specs.Laws.{IsExact}
 use Rattle.sr_bytes.proofs.Steps.{step_of, got_value, got_rest, passed, front_bytes, behind}
 use Rattle.sr_bytes.proofs.Numbers.{byte_spelled, byte_in_spelled, byte_in_again, short_count_again, short_count_spelled, count_again, count_spelled, long_again, long_spelled, front_spelled}
-use Rattle.sr_bytes.proofs.Values.{cell_exact, row_exact, rows_exact, rects_exact, counted_exact, listed_exact, counts, counted_bytes, have_counted, listed_bytes}
+use Rattle.sr_bytes.proofs.Values.{key_exact, row_exact, rows_exact, rects_exact, counted_exact, listed_exact, counts, counted_bytes, have_counted, listed_bytes}
 use Rattle.sr_wire.specs.Kinds.{why_byte, reasons}
 use Rattle.sr_wire.specs.Spelling.{flag_bytes, held_attrs_bytes, holding_bytes, part_bytes, after_bytes, tell_bytes, fault_bytes, is_long, is_table, is_client, is_wire, has_held_attrs, has_holding_bytes, has_part_bytes, has_after_bytes, has_tell_bytes}
 use Rattle.sr_wire.specs.Reading.{a_long, a_byte_in, a_flag, a_reason, a_fault, a_client, a_wire, a_statement, a_holding, some_holdings, some_attrs, some_held_attrs, a_part, some_parts, after_flag, an_after, a_tell, some_told}
@@ -134,11 +134,11 @@ numbered_at from (w ∷ ws) (suc i) d h lt =
     let more = numbered_at (suc from) ws i d (second_so (why_byte w == from) (are_numbered (suc from) ws) h) (omega arith) in
     more ∙ omega arith
 
-why_at : (n : ℕ) (w : Why) → IsTrue (is_from_to 1 31 n) → slice_index_or reasons (n - 1) LongText ≡ w → why_byte w ≡ n
+why_at : (n : ℕ) (w : Why) → IsTrue (is_from_to 1 33 n) → slice_index_or reasons (n - 1) LongText ≡ w → why_byte w ≡ n
 why_at n w h e =
-    let low : 1 ≤ n = leb-true 1 n (first_so (nat_le 1 n) (nat_le n 31) h) in
-    let high : n ≤ 31 = leb-true n 31 (second_so (nat_le 1 n) (nat_le n 31) h) in
-    let few : n - 1 < 31 = omega arith in
+    let low : 1 ≤ n = leb-true 1 n (first_so (nat_le 1 n) (nat_le n 33) h) in
+    let high : n ≤ 33 = leb-true n 33 (second_so (nat_le 1 n) (nat_le n 33) h) in
+    let few : n - 1 < 33 = omega arith in
     let back : 1 + (n - 1) ≡ n = omega arith in
     ap why_byte (sym e) ∙ numbered_at 1 reasons (n - 1) LongText refl few ∙ back
 
@@ -174,6 +174,8 @@ why_again BadHeader rest = refl
 why_again BadRecord rest = refl
 why_again BadNumber rest = refl
 why_again BadUtf8 rest = refl
+why_again BadNull rest = refl
+why_again NullCell rest = refl
 
 abbrev any_why : Why → Bool
 any_why w = true
@@ -183,7 +185,7 @@ why_bytes w = why_byte w ∷ []
 
 pub why_spelled : (bytes : List ℕ) (w : Why) (rest : List ℕ) → IsTrue (are_bytes bytes) → a_reason bytes ≡ Got w rest → (bytes ≡ why_bytes w ++ rest) × IsTrue (any_why w)
 why_spelled bytes w rest fits e =
-    let t = one_spelled (byte_in 1 31) (λ n. slice_index_or reasons (n - 1) LongText) bytes w rest fits e in
+    let t = one_spelled (byte_in 1 33) (λ n. slice_index_or reasons (n - 1) LongText) bytes w rest fits e in
     (t.parts ∙ ap (λ (n : ℕ). n ∷ rest) (sym (why_at t.first w t.has_first t.is)), refl)
 
 abbrev why : Format Why
@@ -244,8 +246,8 @@ statement = record { reader = a_statement; bytes_of = statement_bytes; has = has
 
 -- ---- lists and their items
 
-abbrev cell : Format Cell
-cell = record { reader = a_cell; bytes_of = cell_bytes; has = has_cell_bytes; exact = cell_exact }
+abbrev key : Format Cell
+key = record { reader = a_key; bytes_of = cell_bytes; has = has_key_bytes; exact = key_exact }
 
 abbrev row : Format Row
 row = record { reader = a_row; bytes_of = row_bytes; has = has_row_bytes; exact = row_exact }
@@ -353,19 +355,19 @@ make_tell table key after = record { table = table; key = key; after = after }
 
 tell_again : (t : Tell) (rest : List ℕ) → IsTrue (has_tell_bytes t) → a_tell (tell_bytes t ++ rest) ≡ Got t rest
 tell_again t rest has =
-    let more = second_so (is_table t.table) (has_cell_bytes t.key && has_after_bytes t.after) has in
-    three_again table cell after make_tell t.table t.key t.after rest
-    (first_so (is_table t.table) (has_cell_bytes t.key && has_after_bytes t.after) has)
-    (first_so (has_cell_bytes t.key) (has_after_bytes t.after) more)
-    (second_so (has_cell_bytes t.key) (has_after_bytes t.after) more)
+    let more = second_so (is_table t.table) (has_key_bytes t.key && has_after_bytes t.after) has in
+    three_again table key after make_tell t.table t.key t.after rest
+    (first_so (is_table t.table) (has_key_bytes t.key && has_after_bytes t.after) has)
+    (first_so (has_key_bytes t.key) (has_after_bytes t.after) more)
+    (second_so (has_key_bytes t.key) (has_after_bytes t.after) more)
 
 tell_spelled : (bytes : List ℕ) (t : Tell) (rest : List ℕ) → IsTrue (are_bytes bytes) → a_tell bytes ≡ Got t rest → (bytes ≡ tell_bytes t ++ rest) × IsTrue (has_tell_bytes t)
 tell_spelled bytes v rest fits e =
-    let t = three_spelled table cell after make_tell bytes v rest fits e in
+    let t = three_spelled table key after make_tell bytes v rest fits e in
     subst (λ v. (bytes ≡ tell_bytes v ++ rest) × IsTrue (has_tell_bytes v)) t.is (
       t.parts,
-      and_from (is_table t.first) (has_cell_bytes t.second && has_after_bytes t.third) t.has_first
-          (and_from (has_cell_bytes t.second) (has_after_bytes t.third) t.has_second t.has_third),
+      and_from (is_table t.first) (has_key_bytes t.second && has_after_bytes t.third) t.has_first
+          (and_from (has_key_bytes t.second) (has_after_bytes t.third) t.has_second t.has_third),
     )
 
 pub tell_exact : IsExact a_tell tell_bytes has_tell_bytes

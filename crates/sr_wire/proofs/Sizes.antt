@@ -1,6 +1,6 @@
 -- A message of few rects is short enough to be sent.
 use Rattle.std.proofs.Common.{◌≡◌, ℕ, ℤ, ◌+◌, ◌*◌, ◌≤◌, Bool, true, false, List, [], ◌∷◌, ◌++◌, length, Option, Some, None, refl, ap, ◌∙◌, arith}
-use Rattle.std.specs.Prelude.{◌&&◌, ◌==◌, nat_le, if◌then◌else◌}
+use Rattle.std.specs.Prelude.{◌&&◌, ◌==◌, nat_le, not, if◌then◌else◌}
 use Rattle.std.specs.List.{flat_map, list_all, sum_by}
 use Rattle.std.proofs.Math.Nat.{suc-mul, add-mul}
 use Rattle.std.proofs.lemmas.Bool.{and_parts, leb-true}
@@ -8,10 +8,10 @@ use Rattle.std.proofs.lemmas.List.{length-append}
 use Rattle.std.proofs.lemmas.List.Concat.{flat_map-cons}
 use Rattle.std.proofs.lemmas.List.Sums.{sum_by-cons}
 use Rattle.sr_cell.specs.declared.cell.Cell.{Cell}
-use Rattle.sr_cell.specs.declared.cell.Cell.TheVariants.{Num, Str}
-use Rattle.sr_cell.specs.Cells.{Row}
+use Rattle.sr_cell.specs.declared.cell.Cell.TheVariants.{Num, Str, Null as NullCell}
+use Rattle.sr_cell.specs.Cells.{Row, is_null}
 use Rattle.sr_box.specs.declared.span.Span.{Span}
-use Rattle.sr_box.specs.declared.span.Span.TheVariants.{Full, Nums, Strs}
+use Rattle.sr_box.specs.declared.span.Span.TheVariants.{Full, Nums, Strs, Null}
 use Rattle.sr_box.specs.Points.{Rect}
 use Rattle.sr_message.specs.declared.message.Message.{Message}
 use Rattle.sr_message.specs.declared.message.Message.TheVariants.{Hello, Resume, Ask, Write, Welcome, Notice, Rows, Reply, Written, Refused, Lapse}
@@ -19,7 +19,7 @@ use Rattle.sr_message.specs.declared.message.Holding.{Holding}
 use Rattle.sr_message.specs.declared.message.AskPart.{AskPart}
 use Rattle.sr_message.specs.declared.message.Tell.{Tell}
 use Rattle.sr_bytes.specs.Spelling.{number_bytes, long_bytes, count_bytes, short_count_bytes, text_bytes, cell_bytes, row_bytes, rows_bytes, span_bytes, rect_bytes, rects_bytes, is_from_to}
-use Rattle.sr_bytes.specs.Writing.{may_write_cell, may_write_row, may_write_rows, may_write_span, may_write_rect, may_write_rects}
+use Rattle.sr_bytes.specs.Writing.{may_write_cell, may_write_key, may_write_row, may_write_rows, may_write_span, may_write_rect, may_write_rects}
 use Rattle.sr_wire.specs.Spelling.{is_client, flag_bytes, fault_bytes, has_held_attrs, held_attrs_bytes, holding_bytes, part_bytes, after_bytes, tell_bytes, body_of, most_bytes}
 use Rattle.sr_wire.specs.Limits.{may_write_holding, may_write_part, may_write_after, may_write_tell, may_write, count_held, has_few_rects, FewAreSendable}
 use Rattle.sr_wire.proofs.Frames.{count_length}
@@ -73,6 +73,7 @@ long f p k few (x ∷ xs) h =
 cell_length : (cell : Cell) → may_write_cell cell ≡ true → length (cell_bytes cell) ≤ 122
 cell_length (Num n) h = omega (arith, number_length n)
 cell_length (Str text) h = omega (arith, leb-true (length text) 120 h)
+cell_length NullCell h = omega arith
 
 row_length : (row : Row) → may_write_row row ≡ true → length (row_bytes row) ≤ 1465
 row_length row h =
@@ -98,7 +99,8 @@ span_length (Strs lo (Some hi)) h =
     let parts = and_parts (nat_le (length lo) 121 && nat_le (length hi) 121) _ h in
     let both = and_parts (nat_le (length lo) 121) (nat_le (length hi) 121) parts.0 in
     omega (arith, leb-true (length lo) 121 both.0, leb-true (length hi) 121 both.1, length-append (text_bytes lo) (text_bytes hi))
-span_length (Strs lo None) h = omega (arith, leb-true (length lo) 121 (and_parts (nat_le (length lo) 121) _ h).0)
+span_length (Strs lo None) h = omega (arith, leb-true (length lo) 121 h)
+span_length Null h = omega arith
 
 rect_length : (rect : Rect) → may_write_rect rect ≡ true → length (rect_bytes rect) ≤ 2941
 rect_length rect h =
@@ -139,8 +141,8 @@ after_length (Some row) h = let bytes = row_length row h in omega (arith, bytes)
 
 tell_length : (t : Tell) → may_write_tell t ≡ true → length (tell_bytes t) ≤ 1589
 tell_length t may =
-    let parts = and_parts (may_write_cell t.key) (may_write_after t.after) may in
-    let key = cell_length t.key parts.0 in
+    let parts = and_parts (may_write_key t.key) (may_write_after t.after) may in
+    let key = cell_length t.key (and_parts (not (is_null t.key)) (may_write_cell t.key) parts.0).1 in
     let after = after_length t.after parts.1 in
     omega (arith, key, after, length-append (cell_bytes t.key) (after_bytes t.after))
 

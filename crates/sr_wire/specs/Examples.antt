@@ -1,8 +1,9 @@
 -- Frames, worked out by hand, and one with a byte left over.
-use Rattle.std.specs.Prelude.{pos, ℕ, List, [], ◌∷◌, ◌++◌, ◌≡◌, true}
-use Rattle.sr_box.specs.declared.span.Span.TheVariants.{Full, Nums}
+use Rattle.std.specs.Prelude.{pos, ℕ, List, [], ◌∷◌, ◌++◌, ◌≡◌, Some, true, false}
+use Rattle.sr_cell.specs.declared.cell.Cell.TheVariants.{Num, Null as NullCell}
+use Rattle.sr_box.specs.declared.span.Span.TheVariants.{Full, Nums, Null}
 use Rattle.sr_message.specs.declared.message.Message.{Message}
-use Rattle.sr_message.specs.declared.message.Message.TheVariants.{Hello, Resume, Ask, Reply}
+use Rattle.sr_message.specs.declared.message.Message.TheVariants.{Hello, Resume, Ask, Notice, Reply}
 use Rattle.sr_wire.specs.declared.wire_fault.WireFault.TheVariants.{Field}
 use Rattle.sr_wire.specs.Spelling.{spelling}
 use Rattle.sr_wire.specs.Reading.{decoded, Whole, Faulty}
@@ -56,6 +57,26 @@ abbrev pub long_reply_frame : List ℕ
 long_reply_frame =
     0 ∷ 0 ∷ 0 ∷ 0x12 ∷ 0x14 ∷ 0 ∷ 0 ∷ 0 ∷ 0 ∷ 0 ∷ 0 ∷ 0 ∷ 1 ∷ 0 ∷ 0 ∷ 0 ∷ 0 ∷ 0 ∷ 0 ∷ 0 ∷ 2 ∷ 7 ∷ []
 
+-- the points of a table of two numbers whose second is Null
+abbrev pub null_ask : Message
+null_ask = Ask 3 false ((record { table = 0; attrs = 3; rects = (Full ∷ Null ∷ []) ∷ [] }) ∷ [])
+
+abbrev pub null_ask_frame : List ℕ
+null_ask_frame = 0 ∷ 0 ∷ 0 ∷ 0x15 ∷ 3 ∷ 0 ∷ 0 ∷ 0 ∷ 0 ∷ 0 ∷ 0 ∷ 0 ∷ 3 ∷ 0 ∷ 1 ∷ 0 ∷ 0 ∷ 3 ∷ 0 ∷ 0 ∷ 0 ∷ 1 ∷ 2 ∷ 0 ∷ 4 ∷ []
+
+-- a row of such a table, whose second cell is Null
+abbrev pub null_notice : Message
+null_notice = Notice 2 ((record { table = 0; key = Num (pos 2); after = Some (Num (pos 2) ∷ NullCell ∷ []) }) ∷ [])
+
+abbrev pub null_notice_frame : List ℕ
+null_notice_frame =
+    0 ∷ 0 ∷ 0 ∷ 0x23 ∷ 0x12 ∷ 0 ∷ 0 ∷ 0 ∷ 0 ∷ 0 ∷ 0 ∷ 0 ∷ 2 ∷ 0 ∷ 0 ∷ 0 ∷ 1 ∷ 0 ∷ 0 ∷ 0 ∷ 0 ∷ 0 ∷ 0 ∷ 0 ∷ 0 ∷ 0 ∷ 2 ∷ 1 ∷ 2 ∷ 0 ∷ 0 ∷ 0 ∷ 0 ∷ 0
+    ∷ 0 ∷ 0 ∷ 0 ∷ 2 ∷ 2 ∷ []
+
+-- no key is Null
+abbrev pub null_key_frame : List ℕ
+null_key_frame = 0 ∷ 0 ∷ 0 ∷ 0x10 ∷ 0x12 ∷ 0 ∷ 0 ∷ 0 ∷ 0 ∷ 0 ∷ 0 ∷ 0 ∷ 2 ∷ 0 ∷ 0 ∷ 0 ∷ 1 ∷ 0 ∷ 2 ∷ 0 ∷ []
+
 pub record AreWorkedFrames : Type 0 where
   pub hello_is : spelling hello ≡ hello_frame
   pub hello_back : decoded hello_frame ≡ Whole hello 15
@@ -68,4 +89,9 @@ pub record AreWorkedFrames : Type 0 where
   pub reply_back : decoded reply_frame ≡ Whole reply 21
   pub ask_is : spelling ask ≡ ask_frame
   pub ask_back : decoded (ask_frame ++ 0 ∷ []) ≡ Whole ask 43
+  pub null_ask_is : spelling null_ask ≡ null_ask_frame
+  pub null_ask_back : decoded null_ask_frame ≡ Whole null_ask 25
+  pub null_notice_is : spelling null_notice ≡ null_notice_frame
+  pub null_notice_back : decoded null_notice_frame ≡ Whole null_notice 39
+  pub null_key : decoded null_key_frame ≡ Faulty (Field 18)
   pub left_over : decoded long_reply_frame ≡ Faulty (Field 21)

@@ -1,7 +1,7 @@
 -- The numbers of kinds and of reasons in frames.
 use Rattle.std.specs.Prelude.{ℕ, ◌==◌, List, [], ◌∷◌, Option, Some, None, if◌then◌else◌}
 use Rattle.sr_cell.specs.declared.fault.Why.{Why}
-use Rattle.sr_cell.specs.declared.fault.Why.TheVariants.{LongText, BadToken, Grammar, Deep, UnknownTable, UnknownColumn, Ambiguous, WrongType, OutOfDomain, NotKeyJoin, Repeated, WrongCount, Mixed, TooWide, TooManyTables, NotAWrite, NotAQuery, DuplicateKey, DomainCell, LongCell, KeyChange, TableFull, TooManyChanges, DuplicateName, TooManyColumns, NoKey, BadDomain, BadHeader, BadRecord, BadNumber, BadUtf8}
+use Rattle.sr_cell.specs.declared.fault.Why.TheVariants.{LongText, BadToken, Grammar, Deep, UnknownTable, UnknownColumn, Ambiguous, WrongType, OutOfDomain, NotKeyJoin, Repeated, WrongCount, Mixed, TooWide, TooManyTables, NotAWrite, NotAQuery, DuplicateKey, DomainCell, LongCell, KeyChange, TableFull, TooManyChanges, DuplicateName, TooManyColumns, NoKey, BadDomain, BadHeader, BadRecord, BadNumber, BadUtf8, BadNull, NullCell}
 use Rattle.sr_wire.specs.declared.kind.FrameKind.{FrameKind}
 use Rattle.sr_wire.specs.declared.kind.FrameKind.TheVariants.{Hello, Resume, Ask, Write, Welcome, Notice, Rows, Reply, Written, Refused, Lapse}
 
@@ -68,10 +68,12 @@ why_byte BadHeader = 28
 why_byte BadRecord = 29
 why_byte BadNumber = 30
 why_byte BadUtf8 = 31
+why_byte BadNull = 32
+why_byte NullCell = 33
 
 -- all reasons, in the order of their numbers
 abbrev pub reasons : List Why
 reasons =
     LongText ∷ BadToken ∷ Grammar ∷ Deep ∷ UnknownTable ∷ UnknownColumn ∷ Ambiguous ∷ WrongType ∷ OutOfDomain ∷ NotKeyJoin ∷ Repeated
     ∷ WrongCount ∷ Mixed ∷ TooWide ∷ TooManyTables ∷ NotAWrite ∷ NotAQuery ∷ DuplicateKey ∷ DomainCell ∷ LongCell ∷ KeyChange ∷ TableFull
-    ∷ TooManyChanges ∷ DuplicateName ∷ TooManyColumns ∷ NoKey ∷ BadDomain ∷ BadHeader ∷ BadRecord ∷ BadNumber ∷ BadUtf8 ∷ []
+    ∷ TooManyChanges ∷ DuplicateName ∷ TooManyColumns ∷ NoKey ∷ BadDomain ∷ BadHeader ∷ BadRecord ∷ BadNumber ∷ BadUtf8 ∷ BadNull ∷ NullCell ∷ []

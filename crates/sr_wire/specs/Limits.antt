@@ -9,7 +9,7 @@ use Rattle.sr_message.specs.declared.message.AskPart.{AskPart}
 use Rattle.sr_message.specs.declared.message.Tell.{Tell}
 use Rattle.sr_message.specs.Sizes.{most_rects, count_asked}
 use Rattle.sr_bytes.specs.Spelling.{is_from_to}
-use Rattle.sr_bytes.specs.Writing.{may_write_cell, may_write_row, may_write_rows, may_write_rects}
+use Rattle.sr_bytes.specs.Writing.{may_write_key, may_write_row, may_write_rows, may_write_rects}
 use Rattle.sr_wire.specs.Spelling.{is_client, is_wire, has_held_attrs, body_of, most_bytes}
 
 -- over wire 1 a holding has all columns
@@ -24,7 +24,7 @@ may_write_after None = true
 may_write_after (Some row) = may_write_row row
 
 abbrev pub may_write_tell : Tell → Bool
-may_write_tell t = may_write_cell t.key && may_write_after t.after
+may_write_tell t = may_write_key t.key && may_write_after t.after
 
 abbrev pub may_write : Message → Bool
 may_write (Hello wire client number) = is_wire wire && is_client client

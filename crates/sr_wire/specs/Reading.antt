@@ -11,7 +11,7 @@ use Rattle.sr_message.specs.declared.message.Message.TheVariants.{Hello, Resume,
 use Rattle.sr_message.specs.declared.message.Holding.{Holding}
 use Rattle.sr_message.specs.declared.message.AskPart.{AskPart}
 use Rattle.sr_message.specs.declared.message.Tell.{Tell}
-use Rattle.sr_bytes.specs.Reading.{Reading, Got, Bad, Reader, ◌>>=◌, give, passing, many, a_byte, a_number, bytes_that, a_cell, a_row, some_rows, some_rects}
+use Rattle.sr_bytes.specs.Reading.{Reading, Got, Bad, Reader, ◌>>=◌, give, passing, many, a_byte, a_number, bytes_that, a_key, a_row, some_rows, some_rects}
 use Rattle.sr_bytes.specs.Spelling.{is_from_to}
 use Rattle.sr_wire.specs.declared.kind.FrameKind.{FrameKind}
 use Rattle.sr_wire.specs.declared.kind.FrameKind.TheVariants as kinds
@@ -60,7 +60,7 @@ abbrev pub a_flag : Reader Bool
 a_flag = one (a_byte_in 0 1) (λ n. n == 1)
 
 abbrev pub a_reason : Reader Why
-a_reason = one (a_byte_in 1 31) (λ n. slice_index_or reasons (n - 1) LongText)
+a_reason = one (a_byte_in 1 33) (λ n. slice_index_or reasons (n - 1) LongText)
 
 abbrev pub a_fault : Reader Fault
 a_fault = two a_reason (a_number w32) (λ why at. record { why = why; at = at })
@@ -113,7 +113,7 @@ an_after = do
   after_flag has_row
 
 abbrev pub a_tell : Reader Tell
-a_tell = three a_byte a_cell an_after (λ table key after. record { table = table; key = key; after = after })
+a_tell = three a_byte a_key an_after (λ table key after. record { table = table; key = key; after = after })
 
 -- there may be none
 abbrev pub some_told : Reader (List Tell)

@@ -9,7 +9,7 @@ use Rattle.sr_message.specs.declared.message.Message.TheVariants.{Hello, Resume,
 use Rattle.sr_message.specs.declared.message.Holding.{Holding}
 use Rattle.sr_message.specs.declared.message.AskPart.{AskPart}
 use Rattle.sr_message.specs.declared.message.Tell.{Tell}
-use Rattle.sr_bytes.specs.Spelling.{long_bytes, count_bytes, short_count_bytes, cell_bytes, row_bytes, rows_bytes, rects_bytes, is_from_to, has_cell_bytes, has_row_bytes, have_rows_bytes, have_rects_bytes}
+use Rattle.sr_bytes.specs.Spelling.{long_bytes, count_bytes, short_count_bytes, cell_bytes, row_bytes, rows_bytes, rects_bytes, is_from_to, has_key_bytes, has_row_bytes, have_rows_bytes, have_rects_bytes}
 use Rattle.sr_wire.specs.declared.kind.FrameKind.{FrameKind}
 use Rattle.sr_wire.specs.declared.kind.FrameKind.TheVariants as kinds
 use Rattle.sr_wire.specs.Kinds.{kind_byte, why_byte}
@@ -109,7 +109,7 @@ has_after_bytes None = true
 has_after_bytes (Some row) = has_row_bytes row
 
 abbrev pub has_tell_bytes : Tell → Bool
-has_tell_bytes t = is_table t.table && (has_cell_bytes t.key && has_after_bytes t.after)
+has_tell_bytes t = is_table t.table && (has_key_bytes t.key && has_after_bytes t.after)
 
 abbrev pub has_fields : Message → Bool
 has_fields (Hello wire client number) = is_wire wire && (is_client client && is_long number)

@@ -25,7 +25,7 @@ const STATEMENT: u32 = 65_536;
 const LAST_PART: u8 = 3;
 
 /// The number of the last reason.
-const REASONS: u8 = 31;
+const REASONS: u8 = 33;
 
 /// A message, as `Message`. Its lists and texts are read in the frame's bytes.
 #[derive(Drop)]

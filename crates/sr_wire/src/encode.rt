@@ -10,7 +10,7 @@ use crate::kind::FrameKind;
 use crate::views::FIRST_WIRE;
 use crate::why;
 use sr_bytes::write::{
-    know_utf8, push_cell, push_count, push_long, push_rects, push_row, push_rows, push_short_count,
+    know_utf8, push_count, push_key, push_long, push_rects, push_row, push_rows, push_short_count,
 };
 use sr_cell::attrs::Attrs;
 use sr_cell::cell::Row;
@@ -124,7 +124,7 @@ fn push_tell(out: &mut Bytes, tell: &Tell) -> Result<(), NoMemory>
     ensures spelled { OnOk result (has_tell_bytes tell.now ≡ true) }
 {
     out.push(tell.table)?;
-    push_cell(out, &tell.key)?;
+    push_key(out, &tell.key)?;
     push_after(out, &tell.after)
 }
 

@@ -196,7 +196,7 @@ impl<'a> Item<'a> for TellView<'a> {
 
     fn read(bytes: &mut Cursor<'a>) -> Result<TellView<'a>, BadField> {
         let table = bytes.byte()?;
-        let key = bytes.cell()?;
+        let key = bytes.key()?;
         let after = after(bytes)?;
         Ok(TellView { table, key, after })
     }

@@ -42,12 +42,14 @@ pub fn byte_of(why: Why) -> u8
         Why::BadRecord => 29,
         Why::BadNumber => 30,
         Why::BadUtf8 => 31,
+        Why::BadNull => 32,
+        Why::NullCell => 33,
     }
 }
 
 /// The reason of that number.
 pub fn why_of(byte: u8) -> Why
-    requires { IsTrue (is_from_to 1 31 byte) }
+    requires { IsTrue (is_from_to 1 33 byte) }
     ensures { result ≡ slice_index_or reasons (byte - 1) LongText }
 {
     match byte {
@@ -81,6 +83,8 @@ pub fn why_of(byte: u8) -> Why
         29 => Why::BadRecord,
         30 => Why::BadNumber,
         31 => Why::BadUtf8,
+        32 => Why::BadNull,
+        33 => Why::NullCell,
         _ => Why::LongText,
     }
 }

@@ -17,7 +17,7 @@ use Rattle.sr_store.specs.Stores.{IsOfSchema}
 use Rattle.sr_store.proofs.Classing.{are_classes, have_classes}
 use Rattle.sr_store.proofs.Noticing.{told-in}
 use Rattle.sr_trim.proofs.Tables.{table_first}
-use Rattle.sr_union.specs.Grid.{have_first}
+use Rattle.sr_box.specs.Corners.{have_first}
 use Rattle.sr_history.specs.Classes.{AreClasses}
 use Rattle.sr_session.specs.Sessions.{Database, tables_of}
 use Rattle.sr_session.specs.Clients.{Client as Past}

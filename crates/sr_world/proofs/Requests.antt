@@ -1,6 +1,7 @@
 -- A server refuses no request that a client sends.
 use Rattle.std.proofs.Common.{◌≡◌, ℕ, Bool, true, false, List, [], ◌∷◌, refl, sym, ◌∙◌, subst, arith, Option, None}
-use Rattle.std.specs.Prelude.{not}
+use Rattle.std.specs.Prelude.{not, ◌&&◌, ◌==◌}
+use Rattle.std.proofs.lemmas.Bool.{and_parts}
 use Rattle.sr_cell.specs.declared.table.Table.{Table}
 use Rattle.sr_message.specs.declared.message.Message.{Message}
 use Rattle.sr_message.specs.declared.message.Message.TheVariants.{Hello, Resume, Ask, Write, Welcome, Notice, Rows, Reply, Written, Refused, Lapse}
@@ -20,8 +21,13 @@ pub record IsRequest (tables : List Table) (n : ℕ) (m : Message) : Type 0 wher
   pub parts : has_few_parts m ≡ true
 
 pub request-parts : (schema : List Table) (n : ℕ) (m : Message) → is_request_of schema n m ≡ true → IsRequest schema n m
-request-parts schema n (Hello wire named number) is = record { request = refl; begins = λ _. grind (arith, is); schema = refl; parts = refl }
-request-parts schema n (Resume wire named number version holdings) is = record { request = refl; begins = λ _. grind (arith, is); schema = grind (arith, is); parts = refl }
+request-parts schema n (Hello wire named number) is =
+    let suits = and_parts (named == n) (suits_schema schema (Hello wire named number)) (and_parts (named == n && suits_schema schema (Hello wire named number)) true is).0 in
+    record { request = refl; begins = λ _. suits.0; schema = suits.1; parts = refl }
+request-parts schema n (Resume wire named number version holdings) is =
+    let m = Resume wire named number version holdings in
+    let suits = and_parts (named == n) (suits_schema schema m) (and_parts (named == n && suits_schema schema m) true is).0 in
+    record { request = refl; begins = λ _. suits.0; schema = suits.1; parts = refl }
 request-parts schema n (Ask number fresh parts) is = record { request = refl; begins = λ wrong. absurd (let w : true ≡ false = wrong in cc); schema = grind (arith, is); parts = grind (arith, is) }
 request-parts schema n (Write number sql) is = record { request = refl; begins = λ wrong. absurd (let w : true ≡ false = wrong in cc); schema = refl; parts = refl }
 request-parts schema n (Welcome number version kept) is = absurd (let w : false ≡ true = is in cc)

@@ -13,18 +13,18 @@ use Rattle.sr_agg.proofs.groups.add.Goals as goal
 
 pub add_row-requires : goal.add_row-requires
 add_row-requires c =
-    let found : lookup (finds c.front-key.result.now) c.args.groups.now.entries ≡ Some c.in-Some.tallies.now = sym c.in-Some.ensures.value in
+    let found : lookup (finds c.as_slice.result.now) c.args.groups.now.entries ≡ Some c.in-Some.tallies.now = sym c.in-Some.ensures.value in
     let within = c.requires.within in
     let all : length c.args.rows.now < 2 ^ 63 = search rules in
     let few : length (take c.args.number c.args.rows.now) < 2 ^ 63 = let len = length-take-le c.args.number c.args.rows.now (omega (arith, within)) in omega (arith, len, within, all) in
     let same : c.deref_mut.result.now ≡ c.in-Some.tallies.now.items = search rules in
-    rw same (kept-few c.args.count c.args.items.now (take c.args.number c.args.rows.now) c.front-key.result.now c.args.groups.now.entries c.in-Some.tallies.now c.requires.so_far few found)
+    rw same (kept-few c.args.count c.args.items.now (take c.args.number c.args.rows.now) c.as_slice.result.now c.args.groups.now.entries c.in-Some.tallies.now c.requires.so_far few found)
 
 pub returns-in-Some : goal.returns-in-Some
 returns-in-Some c =
     let w = with_items c.in-Some.tallies.now c.add_row.new.tallies in
     let row = c.index-rows-number.result in
-    let found : lookup (finds c.front-key.result.now) c.args.groups.now.entries ≡ Some c.in-Some.tallies.now = sym c.in-Some.ensures.value in
+    let found : lookup (finds c.as_slice.result.now) c.args.groups.now.entries ≡ Some c.in-Some.tallies.now = sym c.in-Some.ensures.value in
     let same : c.deref_mut.result.now ≡ c.in-Some.tallies.now.items = search rules in
     let here : row ≡ get_or c.args.rows.now c.args.number row = search rules in
     let more : take (c.args.number + 1) c.args.rows.now ≡ take c.args.number c.args.rows.now ++ row ∷ [] =
@@ -34,7 +34,7 @@ returns-in-Some c =
     let all = grown ∙ ap (map (λ tally. with_row tally row)) same in
     let len : length c.add_row.new.tallies ≡ c.in-Some.tallies.now.len = ap length all ∙ (length-map c.in-Some.tallies.now.items (λ tally. with_row tally row) ∙ sym c.in-Some.tallies.now.ok.0) in
     ap entries_seen (c.get_mut.follows.holds w).0
-    ∙ (row-added-at c.args.count c.args.items.now (take c.args.number c.args.rows.now) row c.front-key.result.now c.args.groups.now.entries c.in-Some.tallies.now w c.front-key.ensures c.requires.so_far
+    ∙ (row-added-at c.args.count c.args.items.now (take c.args.number c.args.rows.now) row c.as_slice.result.now c.args.groups.now.entries c.in-Some.tallies.now w (c.as_slice.ensures.value ∙ c.in_ok-key.ensures) c.requires.so_far
     c.in-Some.ensures.ordered found (with_items_is c.in-Some.tallies.now c.add_row.new.tallies len ∙ all)
     ∙ ap (grouped c.args.count c.args.items.now) (sym more)))
 
@@ -47,7 +47,7 @@ pub returns : goal.returns
 returns c =
     let w = with_items c.in_ok-tallies.tallies c.add_row-2.new.tallies in
     let row = c.index-rows-number.result in
-    let none : lookup (finds c.front-key.result.now) c.args.groups.now.entries ≡ None = sym c.get_mut.ensures.value ∙ ap option_copied_mut c.in_default.is in
+    let none : lookup (finds c.as_slice.result.now) c.args.groups.now.entries ≡ None = sym c.get_mut.ensures.value ∙ ap option_copied_mut c.in_default.is in
     let same : c.deref_mut-2.result.now ≡ map first_tally c.args.items.now = search rules in
     let here : row ≡ get_or c.args.rows.now c.args.number row = search rules in
     let more : take (c.args.number + 1) c.args.rows.now ≡ take c.args.number c.args.rows.now ++ row ∷ [] =
@@ -57,7 +57,7 @@ returns c =
     let len : length c.add_row-2.new.tallies ≡ c.in_ok-tallies.tallies.len =
     ap length all ∙ (length-map (map first_tally c.args.items.now) (λ tally. with_row tally row) ∙ (sym (ap length items) ∙ sym c.in_ok-tallies.tallies.ok.0)) in
     ap entries_seen c.in_ok-insert.ensures.entries
-    ∙ (ap (λ m. entries_seen (insert_entry vec_order m.entries c.in_ok-copied.field-0 w)) c.get_mut.follows.holds-at-none
-    ∙ (group-added-at c.args.count c.args.items.now (take c.args.number c.args.rows.now) row c.front-key.result.now c.args.groups.now.entries c.in_ok-copied.field-0 w c.front-key.ensures c.requires.so_far
-    c.in_ok-copied.ensures none (with_items_is c.in_ok-tallies.tallies c.add_row-2.new.tallies len ∙ all)
+    ∙ (ap (λ m. entries_seen (insert_entry vec_order m.entries c.in_ok-key.key w)) c.get_mut.follows.holds-at-none
+    ∙ (group-added-at c.args.count c.args.items.now (take c.args.number c.args.rows.now) row c.as_slice.result.now c.args.groups.now.entries c.in_ok-key.key w (c.as_slice.ensures.value ∙ c.in_ok-key.ensures) c.requires.so_far
+    (sym c.as_slice.ensures.value) none (with_items_is c.in_ok-tallies.tallies c.add_row-2.new.tallies len ∙ all)
     ∙ ap (grouped c.args.count c.args.items.now) (sym more)))

@@ -2,7 +2,8 @@ use Rattle.std.proofs.Common.{◌≡◌, ◌∙◌, ◌<◌, List, [], true, len
 use Rattle.std.proofs.lemmas.List.{get_or_read}
 use Rattle.sr_cell.specs.declared.table.Table.{Table}
 use Rattle.sr_cell.specs.Columns.{table_at}
-use Rattle.sr_union.specs.Grid.{all_inner, have_first}
+use Rattle.sr_box.specs.Corners.{have_first}
+use Rattle.sr_union.specs.Grid.{all_inner}
 use Rattle.sr_store.proofs.Tables.{tables_inner, tables_first}
 use Rattle.sr_client.proofs.victims.table_at.Goals as goal
 

@@ -1,10 +1,10 @@
-use Rattle.std.proofs.Common.{◌-◌, not, arith}
+use Rattle.std.proofs.Common.{◌≡◌, ℕ, ◌-◌, drop, not, subst, arith}
 use Rattle.std.proofs.lemmas.Result.{IfOk-weaker}
 use Rattle.sr_model.specs.Conditions.{Not}
 use Rattle.sr_query.specs.Binding.{cond_of}
-use Rattle.sr_query.specs.Meant.{meant}
-use Rattle.sr_condition.specs.Said.{AreRects}
-use Rattle.sr_condition.proofs.Combined.{meet-init, meet-step, join-step, not-rects}
+use Rattle.sr_query.specs.Meant.{meant, members}
+use Rattle.sr_condition.specs.Said.{all_of, AreRects}
+use Rattle.sr_condition.proofs.Combined.{meet-init, meet-step, join-init, join-step, not-rects}
 use Rattle.sr_condition.proofs.rects.+condition.Goals as goal
 
 pub negation-returns : goal.negation-returns
@@ -22,6 +22,14 @@ meet_all-loop-i-preserved t c = record {
       (omega arith) (omega arith) c.index-all-i.is c.in_ok-one.ensures c.loop-i.invariant.are (c.in_ok-both-2.ensures.points c.args.table.now.columns)
       (c.in_ok-both-2.ensures.cuts c.args.table.now.columns c.in_ok-one.ensures.fits c.loop-i.invariant.are.fits) c.in_ok-both-2.ensures.few;
 }
+
+pub meet_all-returns : goal.meet_all-returns
+meet_all-returns t c =
+    let none_left : c.loop-i.i ≡ 0 = omega arith in
+    subst (λ (n : ℕ). AreRects c.args.table.now.columns c.args.plain (all_of c.args.plain (members (drop n c.args.all.now))) c.loop-i.both) none_left c.loop-i.invariant.are
+
+pub join_all-loop-i-init : goal.join_all-loop-i-init
+join_all-loop-i-init t c = record { inside = omega arith; are = join-init c.args.table.now.columns c.args.plain c.args.all.now c.new-any.result c.new-any.ensures }
 
 pub join_all-loop-i-preserved : goal.join_all-loop-i-preserved
 join_all-loop-i-preserved t c = record {

@@ -1,6 +1,6 @@
 use Rattle.std.proofs.Common.{◌≡◌, ◌∙◌, refl}
 use Rattle.std.proofs.lemmas.Result.{IfOk-weaker}
-use Rattle.sr_model.specs.Ends.{test_ends}
+use Rattle.sr_model.specs.Ends.{places_of}
 use Rattle.sr_condition.specs.Ranges.{says_test, range_width, without, AreSpans}
 use Rattle.sr_condition.proofs.Parts.{part-fits}
 use Rattle.sr_condition.proofs.Tested.{range-inside, range-outside}
@@ -17,6 +17,6 @@ pub returns-in_ok-whole : goal.returns-in_ok-whole
 returns-in_ok-whole c =
     λ t r. IfOk-weaker c.without.result
     (λ left. left ≡ without c.args.column.now c.part_of-part.result c.in_ok-whole.field-0)
-    (AreSpans c.args.column.now (says_test c.args.plain t) (range_width c.args.plain) (test_ends t))
+    (AreSpans c.args.column.now (says_test c.args.plain t) (range_width c.args.plain) (places_of t))
     (λ left is. range-outside c.args.column.now t c.args.bounds c.args.plain left c.if-plain.false c.requires.good r (is ∙ rw (c.in_ok-whole.ensures, c.part_of-part.ensures) refl))
     c.without.ensures

@@ -23,9 +23,9 @@ unreachable-requires c = says_only c.args.sql.now c.in_ok-table.field-0 c.requir
 pub returns-clause-added : goal.returns-clause-added
 returns-clause-added c =
     let says : Says c.args.sql.now (Ok (Create c.in-Create.table)) = subst (λ z. Says c.args.sql.now (Ok (statement_seen z))) c.in-Create.is c.in_ok-table.ensures.found in
-    added_by c.args.schema.now c.add.new.self c.args.sql.now c.in-Create.table c.add.result says c.add.ensures.added c.add.ensures.faultless
+    added_by c.args.schema.now c.add_nullable.new.self c.args.sql.now c.in-Create.table c.add_nullable.result says c.add_nullable.ensures.added c.add_nullable.ensures.faultless
 
 pub returns-clause-refused : goal.returns-clause-refused
 returns-clause-refused c fault is =
     let says : Says c.args.sql.now (Ok (Create c.in-Create.table)) = subst (λ z. Says c.args.sql.now (Ok (statement_seen z))) c.in-Create.is c.in_ok-table.ensures.found in
-    inr (c.in-Create.table, says, c.add.ensures.refused fault is)
+    inr (c.in-Create.table, says, c.add_nullable.ensures.refused fault is)

@@ -5,7 +5,7 @@ use Rattle.sr_cell.specs.declared.cell.Cell.{Cell}
 use Rattle.sr_cell.specs.declared.cell.Cell.TheVariants.{Num}
 use Rattle.sr_cell.specs.Cells.{cell_le}
 use Rattle.sr_box.specs.Spans.{in_span}
-use Rattle.sr_tables.proofs.Ends.{nums-high, texts-high}
+use Rattle.sr_tables.proofs.Ends.{nums-high, texts-high, null-high}
 use Rattle.sr_tables.proofs.select.high_of.Goals as goal
 
 pub returns-in-Nums : goal.returns-in-Nums
@@ -17,3 +17,6 @@ returns-in-Nums c =
 pub returns-in-Strs : goal.returns-in-Strs
 returns-in-Strs c =
     IfSome_then c.end_of.result c.end_of.ensures (λ text below v h. texts-high c.in-Strs.lo c.in-Strs.hi text v below (rw c.in-Strs.is at h))
+
+pub returns-in-Null : goal.returns-in-Null
+returns-in-Null c = λ v h. null-high v (rw c.in-Null.is at h)

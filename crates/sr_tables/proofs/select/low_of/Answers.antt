@@ -5,7 +5,7 @@ use Rattle.sr_cell.specs.declared.cell.Cell.{Cell}
 use Rattle.sr_cell.specs.declared.cell.Cell.TheVariants.{Num, Str}
 use Rattle.sr_cell.specs.Cells.{cell_le}
 use Rattle.sr_box.specs.Spans.{in_span}
-use Rattle.sr_tables.proofs.Ends.{nums-low, texts-low}
+use Rattle.sr_tables.proofs.Ends.{nums-low, texts-low, null-low}
 use Rattle.sr_tables.proofs.select.low_of.Goals as goal
 
 pub returns-in-Nums : goal.returns-in-Nums
@@ -18,3 +18,6 @@ pub returns-in-Strs : goal.returns-in-Strs
 returns-in-Strs c =
     IfSome_then c.text_of.result c.text_of.ensures (λ text is v h.
     subst (λ t. cell_le t v ≡ true) (sym (is ∙ ap Str c.as_slice.ensures)) (texts-low c.in-Strs.lo c.in-Strs.hi v (rw c.in-Strs.is at h)))
+
+pub returns-in-Null : goal.returns-in-Null
+returns-in-Null c = λ v h. null-low v (rw c.in-Null.is at h)

@@ -1,6 +1,6 @@
 use Rattle.std.proofs.Common.{◌≡◌, ℕ, true, drop}
 use Rattle.sr_cell.specs.declared.cell.Cell.{Cell}
-use Rattle.sr_model.specs.Conditions.{all_true}
+use Rattle.sr_model.specs.Sides.{all_true}
 use Rattle.sr_query.specs.Meant.{members}
 use Rattle.sr_tables.proofs.span.+upper.Given as goal
 

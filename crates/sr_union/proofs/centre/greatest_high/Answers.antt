@@ -13,7 +13,7 @@ loop-rect-preserved c =
     let i = c.loop-rect.rect-index in
     let r = c.rect-item.result in
     let far = to_z w64 c.loop-rect.greatest-bits in
-    let of_rect = λ (q : Rect). high_of c.args.column.now.kind c.args.column.now.hi (span_at c.args.k q) in
+    let of_rect = λ (q : Rect). high_of c.args.column.now.kind c.args.column.now.lo c.args.column.now.hi (span_at c.args.k q) in
     let first : drop i others ≡ r ∷ drop (i + 1) others = drop_more others i r c.loop-rect-test.true ∙ ap (λ q. q ∷ drop (i + 1) others) (sym c.rect-item.is) in
     let own = held c.high_at.result (record { sfits = c.high_at.type_inv }) in
     let new = held c.greater-greatest.result (record { sfits = c.greater-greatest.type_inv }) in

@@ -18,7 +18,7 @@ cut_each-requires-clause-rects_fit c =
     let inv = subst (λ xs. c.loop-other.left ≡ minus_all c.args.columns.now c.args.rects (take c.loop-other.other-index xs)) c.as_slice-other-items.ensures c.loop-other.invariant.0 in
     subst (λ r. list_all (rect_fits c.args.columns.now) r ≡ true) (sym inv)
     (are_fit c.args.columns.now (c.args.rects ++ c.args.others.now) (minus_all c.args.columns.now c.args.rects (take c.loop-other.other-index c.args.others.now))
-    (left_are c.args.columns.now c.args.rects c.args.others.now c.loop-other.other-index c.requires.rects_fit c.requires.others_fit))
+    (left_are c.args.columns.now c.args.rects c.args.others.now c.loop-other.other-index c.requires.first c.requires.rects_fit c.requires.others_fit))
 
 pub loop-other-preserved : goal.loop-other-preserved
 loop-other-preserved c =
@@ -48,4 +48,4 @@ pub returns-clause-cuts : goal.returns-clause-cuts
 returns-clause-cuts c =
     let inv = subst (λ xs. c.loop-other.left ≡ minus_all c.args.columns.now c.args.rects (take c.loop-other.other-index xs)) c.as_slice-other-items.ensures c.loop-other.invariant.0 in
     subst (AreCutFrom c.args.columns.now (c.args.rects ++ c.args.others.now)) (sym inv)
-    (left_are c.args.columns.now c.args.rects c.args.others.now c.loop-other.other-index c.requires.rects_fit c.requires.others_fit)
+    (left_are c.args.columns.now c.args.rects c.args.others.now c.loop-other.other-index c.requires.first c.requires.rects_fit c.requires.others_fit)

@@ -16,5 +16,10 @@ returns c = record {
   reply_back = refl;
   ask_is = refl;
   ask_back = refl;
+  null_ask_is = refl;
+  null_ask_back = refl;
+  null_notice_is = refl;
+  null_notice_back = refl;
+  null_key = refl;
   left_over = refl;
 }

@@ -22,9 +22,6 @@ use Rattle.sr_agg.specs.Inner.{group_count, inner_text, listed}
 use Rattle.sr_agg.specs.Seen.{no_of, scope_with, IsAsked, IsUnasked, Judges}
 use Rattle.sr_agg.specs.Starting.{Plan, Scope, Starts, asked_by, behind_query, planned, scope_of}
 
-pub text-refused : (schema : List Table) (text : List ℕ) (fault : Fault) → outer text ≡ Err fault → Starts schema text (Err (Sql fault))
-text-refused schema text fault e = rw e refl
-
 pub query-refused : (schema : List Table) (text : List ℕ) (a : Aggregate) (said : Result Statement Fault) (fault : Fault) → outer text ≡ Ok a → Says (inner_text schema text a) said → asked_by schema said ≡ Err fault
     → Starts schema text (Err (Sql fault))
 query-refused schema text a said fault e says asked = rw e (said, says, sym (ap (behind_query schema text a) asked))

@@ -83,10 +83,6 @@ pub by-told : (old new : Client) (next other : Told → Told) (rule : Basis → 
 by-told old new next other rule same goes told is =
     subst (λ t. IsToldOf old.schema t new.store.regions × rule (told_basis old.schema old.store.limits t)) (sym (same told)) (goes told is)
 
--- a step that leaves the regions as they are
-pub stays-told : (old : Client) (new : Client) (rule : Basis → Type 0) → new.store.regions ≡ old.store.regions → ((told : Told) → rule (told_basis old.schema old.store.limits told)) → GoesByTold old new (λ told. told) rule
-stays-told old new rule same goes told is = (subst (IsToldOf old.schema told) (sym same) is, goes told)
-
 -- ---- a reply that is not refused
 
 -- its number is that of the ask that is out

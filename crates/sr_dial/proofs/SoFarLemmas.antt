@@ -44,23 +44,8 @@ few-anew n most = by n.again n.taken most
     by true taken most = most
     by false taken most = omega arith
 
--- all that is taken for a line
-pub spent-few : (n : Count) → n.taken ≤ 1000000 → spent n ≤ 2000000
-spent-few n few = by n.again n.taken few
-  where
-    by : (again : Bool) (taken : ℕ) → taken ≤ 1000000 → cond again 1000000 0 + taken ≤ 2000000
-    by true taken few = omega (arith, few)
-    by false taken few = omega (arith, few)
-
 pub left-more : (n : Count) → n.taken + 1 ≤ 1000000 → left_to_take (one_more n) < left_to_take n
 left-more n most = omega (arith, most)
-
-pub left-anew : (n : Count) → n.taken + 1 ≤ 1000000 → left_to_take (anew n) < left_to_take n
-left-anew n most = by n.again n.taken most
-  where
-    by : (again : Bool) (taken : ℕ) → taken + 1 ≤ 1000000 → left_to_take (anew_if again taken) < cond again 0 1000001 + (1000000 - taken)
-    by true taken most = omega (arith, most)
-    by false taken most = omega (arith, most)
 
 pub record WaitedSoFar (H C : Type 0) (reading : H → Reading) (writing : H → Writing) (linking : H → Linking) (held : H → List ℕ → Option (List ℕ)) (complaints : H → Option (List ℕ)) (IsSteady : H → Type 0)
     (Stands : C → Client → Type 0) (lent : C → Option Answer) (IsOf : Standing C) (Has : Holding C) (setting : C → Setting) (room : C → ℕ) (schema : List Table) (number : ℕ) (first now : H) (fed feed : List ℕ) (code_first code : C) (count : Count) : Type 0 where

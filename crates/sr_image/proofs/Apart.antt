@@ -1,7 +1,7 @@
 -- Rects that were read whether they meet or not, and do not meet.
 use Rattle.std.proofs.Common.{◌≡◌, ℕ, zero, suc, Bool, true, false, cond, List, [], ◌∷◌, ◌++◌, Some, None, length, take, drop, get_or, refl, sym, ap, ◌∙◌, ◌<◌, ◌≤◌, ◌+◌, arith}
 use Rattle.std.specs.Prelude.{Option}
-use Rattle.std.proofs.lemmas.List.{length-take-le, take_more}
+use Rattle.std.proofs.lemmas.List.{take_more}
 use Rattle.sr_cell.specs.declared.table.Table.{Table}
 use Rattle.sr_box.specs.Points.{Rect}
 use Rattle.sr_bytes.specs.Reading.{Reading, Reader, Got, ◌>>=◌, give, read_on, tested, passing, a_rect}
@@ -43,20 +43,7 @@ split [] i d lt = absurd (omega (arith, lt))
 split (r ∷ rects) zero d lt = let e : 0 + 1 ≡ suc 0 = omega arith in ap (λ n. r ∷ drop n (r ∷ rects)) (sym e)
 split (r ∷ rects) (suc i) d lt = let e : suc i + 1 ≡ suc (i + 1) = omega arith in split rects i d (omega (arith, lt)) ∙ ap (λ n. get_or rects i d ∷ drop n (r ∷ rects)) (sym e)
 
-pub met-here : (rects : List Rect) (i : ℕ) (d : Rect) → i < length rects → meets_some (take i rects) (get_or rects i d) ≡ true → first_met (take i rects) (drop i rects) ≡ Some i
-met-here rects i d lt met =
-    ap (first_met (take i rects)) (split rects i d lt) ∙ rw met (ap (λ n. Some n) (length-take-le i rects (omega (arith, lt))))
-
 pub met-more : (rects : List Rect) (i : ℕ) (d : Rect) → i < length rects → meets_some (take i rects) (get_or rects i d) ≡ false
     → first_met (take i rects) (drop i rects) ≡ first_met (take (i + 1) rects) (drop (i + 1) rects)
 met-more rects i d lt met =
     ap (first_met (take i rects)) (split rects i d lt) ∙ rw met (ap (λ (b : List Rect). first_met b (drop (i + 1) rects)) (sym (take_more rects i d lt)))
-
-pub met-end : (rects : List Rect) (i : ℕ) → length rects ≤ i → first_met (take i rects) (drop i rects) ≡ None
-met-end rects i le = ap (first_met (take i rects)) (past rects i le)
-  where
-    past : (xs : List Rect) (n : ℕ) → length xs ≤ n → drop n xs ≡ []
-    past [] zero le = refl
-    past [] (suc n) le = refl
-    past (x ∷ xs) zero le = absurd (omega (arith, le))
-    past (x ∷ xs) (suc n) le = past xs n (omega (arith, le))

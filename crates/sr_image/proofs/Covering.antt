@@ -248,16 +248,6 @@ passed-on p order at size none =
     let back : drop size (drop at order) ≡ drop (at + size) order = drop-again size at order ∙ (let e : size + at ≡ at + size = omega arith in ap (λ n. drop n order) e) in
     ap (list_any p) (sym split) ∙ list_any-append p (take size (drop at order)) (drop size (drop at order)) ∙ ap (λ b. b || list_any p (drop size (drop at order))) none ∙ ap (list_any p) back
 
-pub passed-end : (p : ℕ → Bool) (order : List ℕ) (at size : ℕ) → length order ≤ at + size → list_any p (take size (drop at order)) ≡ false → list_any p (drop at order) ≡ list_any p (drop (length order) order)
-passed-end p order at size end none =
-    passed-on p order at size none ∙ ap (list_any p) (drop-past (at + size) order end ∙ sym (drop-past (length order) order (omega arith)))
-  where
-    drop-past : (n : ℕ) (xs : List ℕ) → length xs ≤ n → drop n xs ≡ []
-    drop-past zero [] le = refl
-    drop-past zero (x ∷ xs) le = absurd (omega (arith, le))
-    drop-past (suc n) [] le = refl
-    drop-past (suc n) (x ∷ xs) le = drop-past n xs (omega (arith, le))
-
 pub all-at : {A : Type 0} (p : A → Bool) (xs : List A) (i : ℕ) (d : A) → list_all p xs ≡ true → i < length xs → p (get_or xs i d) ≡ true
 all-at p [] i d h lt = absurd (omega (arith, lt))
 all-at p (x ∷ xs) zero d h lt = (both (p x) (list_all p xs) h).0

@@ -1,5 +1,5 @@
 -- Reading items one after another, each by those before it.
-use Rattle.std.proofs.Common.{◌≡◌, ℕ, suc, ◌-◌, ◌+◌, ◌<◌, ◌≤◌, List, [], ◌∷◌, ◌++◌, append-nil, append_assoc, refl, sym, ap, subst, ◌∙◌, arith}
+use Rattle.std.proofs.Common.{◌≡◌, ℕ, suc, ◌-◌, ◌+◌, ◌<◌, ◌≤◌, List, [], ◌∷◌, ◌++◌, append_assoc, refl, sym, ap, ◌∙◌, arith}
 use Rattle.std.specs.Prelude.{Err}
 use Rattle.sr_cell.specs.declared.list.No.{No}
 use Rattle.sr_cell.specs.declared.list.No.TheVariants.{Refused, NoMemory}
@@ -41,19 +41,3 @@ pub stops : {A : Type 0} (no : No BadField) (r : List A → Reader A) (n i : ℕ
     → ReadsOr {X = A} (Err no) rest (r before bytes) → all_of r n i before bytes ≡ whole → ReadsOr {X = List A} (Err no) rest whole
 stops (Refused bad) r n i before bytes rest whole lt e so_far = sym so_far ∙ next-is r n i before bytes (Bad rest) lt e
 stops NoMemory r n i before bytes rest whole lt e so_far = tt
-
--- none was read yet
-pub none-yet : {A : Type 0} (r : List A → Reader A) (n : ℕ) (bytes : List ℕ) → all_of r n 0 [] bytes ≡ each_behind r n [] bytes
-none-yet r n bytes =
-    let all : n - 0 ≡ n = omega arith in
-    ap (λ k. with_front [] (each_behind r k [] bytes)) all ∙ by (each_behind r n [] bytes)
-  where
-    by : {A : Type 0} (reading : Reading (List A)) → with_front [] reading ≡ reading
-    by (Got xs rest) = refl
-    by (Bad rest) = refl
-
--- all were read
-pub all-read : {A : Type 0} (r : List A → Reader A) (n i : ℕ) (xs : List A) (bytes : List ℕ) (whole : Reading (List A)) → n ≤ i → all_of r n i xs bytes ≡ whole → whole ≡ Got xs bytes
-all-read r n i xs bytes whole le so_far =
-    let none : n - i ≡ 0 = omega (arith, le) in
-    sym so_far ∙ (ap (λ k. with_front xs (each_behind r k xs bytes)) none ∙ ap (λ ys. Got ys bytes) (append-nil xs))

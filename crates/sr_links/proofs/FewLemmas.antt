@@ -7,7 +7,7 @@ use Rattle.sr_message.specs.declared.message.Message.{Message}
 use Rattle.sr_model.specs.Queries.{Query}
 use Rattle.sr_model.specs.Statements.{Tables}
 use Rattle.sr_session.specs.Clients.{Client, Connection, Flows, Stands, is_down, is_idle, is_open, is_resuming, is_sent, is_served}
-use Rattle.sr_session.specs.Rules.{Answering, AnswerStep, renewed, given_up, Basis, Before, as_it_is, emptied, Outcome, sends, sent_of, QueryStep, query_refused, query_busy, query_answered, query_down, query_asks, TakeStep, lays, applies, forgets, answers, asks_once_more, written, refused_write, is_welcomed, EvictStep, evict_busy, evicts_none, evicts, WriteStep, write_busy, write_down, write_sends, CutStep, already_cut, cuts, already_up, resumes}
+use Rattle.sr_session.specs.Rules.{Answering, AnswerStep, renewed, given_up, Basis, Before, as_it_is, emptied, Outcome, sends, sent_of, QueryStep, query_refused, query_busy, query_answered, query_down, query_asks, TakeStep, lays, applies, forgets, answers, asks_once_more, written, refused_write, is_welcomed, EvictStep, evict_busy, evicts_none, evicts, WriteStep, write_busy, write_down, write_sends, cuts, already_up, resumes}
 use Rattle.sr_session.specs.Scenes.{taken}
 use Rattle.sr_session.specs.Sessions.{Database}
 use Rattle.sr_session.specs.Walks.{Request, IsLaid}
@@ -180,12 +180,6 @@ module _ (db : Database) (c : Client) (l : Connection) (stands : Stands db (pair
         by x is o new (written number version drops out later all) = last-few o new (λ laid. subst IsLaid is laid) refl
         by x is o new (refused_write number fault drops out later all) = last-few o new (λ laid. subst IsLaid is laid) refl
         by x is o new (is_welcomed number version kept drops out later all) = last-few o new (λ laid. subst IsLaid is laid) refl
-
-  -- ---- a cut
-
-  pub cut-few : (o : Outcome) (new : Client) → CutStep c o new → IsFew new nothing
-  cut-few o new (already_cut down) = let most = few.few in record { waits = λ some. absurd (some refl); idle = λ none. refl; few = omega (arith, most); ends = tt }
-  cut-few o new (cuts up) = record { waits = λ some. absurd (some refl); idle = λ none. refl; few = omega arith; ends = tt }
 
   -- ---- the server takes a frame
 

@@ -63,9 +63,6 @@ module _ (schema : List Table) (parts : List Part) (r : Arrival) (is : IsArrival
   abbrev key : ℕ
   key = rank r.attrs r.key
 
-  abbrev Part' : Row → Type 0
-  Part' = IsPart (table_at schema r.table).columns r.attrs
-
   abbrev left : List Row
   left = filter (stays_beside r) (told r.table r.attrs)
 

@@ -25,10 +25,6 @@ reads-more old now new before between after bytes r brings is grows =
       cut = sym (append_assoc before r.bytes bytes) ∙ (ap (λ x. x ++ bytes) r.cut ∙ sym grows);
     }
 
--- what was left stands there still
-pub reads-still : (old now new : Linking) (before feed left : List ℕ) → Reads old now before [] feed → new ≡ now → left ≡ feed → Reads old new before [] left
-reads-still old now new before feed left r same kept = record { bytes = r.bytes; brings = r.brings; is = same ∙ r.is; cut = r.cut ∙ sym kept }
-
 module _ (L : Type 0) (reading : L → Reading) (writing : L → Writing) (linking : L → Linking) (held : L → List ℕ → Option (List ℕ)) (complaints : L → Option (List ℕ)) (IsSteady : L → Type 0) where
   -- one turn
   pub turn : (first now new : L) (fed feed next after : List ℕ) (count index : ℕ) → ReadSoFar L reading writing linking held complaints IsSteady first now fed feed index

@@ -1,5 +1,5 @@
 //! Running a script as a client that starts from an image.
-ghost use Rattle.std.specs.Prelude.{◌≡◌, ◌<◌, ◌≤◌, ◌+◌, ◌*◌, ◌^◌, true, None, Ok, flat_map, string_bytes, List, ℕ, IfErr, IfOk, IsErrOf, IsTrue, OnOk};
+ghost use Rattle.std.specs.Prelude.{◌≡◌, ◌<◌, ◌≤◌, ◌+◌, ◌*◌, ◌^◌, true, None, Ok, string_bytes, List, ℕ, IfErr, IfOk, IsErrOf, IsTrue, OnOk};
 ghost use Rattle.std.specs.List.{list_all};
 ghost use Rattle.sr_calls.specs.ClientEnds.{room_of};
 ghost use Rattle.sr_client.specs.Stands.{StandsFor};
@@ -9,7 +9,6 @@ ghost use Rattle.sr_image.specs.Found.{Answers};
 ghost use Rattle.sr_image.specs.Laws.{is_image};
 ghost use Rattle.sr_image.specs.Reading.{image_in};
 ghost use Rattle.sr_query.specs.Bound.{is_table};
-ghost use Rattle.sr_script.specs.TraceText.{line_text};
 ghost use Rattle.sr_session.specs.Clients.{Client as Past};
 ghost use Rattle.sr_talk.specs.Rounds.{OnlyOutput};
 ghost use Rattle.sr_words.specs.declared.command.ClientKind.TheVariants.{Client as AsClient};
@@ -32,7 +31,6 @@ use sr_calls::run::run_plan;
 use sr_calls::start::start_from;
 use sr_cell::list::{Bytes, No, NoMemory};
 use sr_cell::schema::Schema;
-use sr_cell::table::Table;
 use sr_client::start::ClientStart;
 use sr_dial::plans::{Plans, Script as Lines};
 use sr_history::mark::Marks;
@@ -40,8 +38,7 @@ use sr_image::image::{Image, ImageFault};
 use sr_image::read::read_image;
 use sr_io::outside::Host;
 use sr_reader::script::Script;
-use sr_script::line::TraceLine;
-use sr_script::text::push_line;
+use sr_script::text::lines_text;
 use sr_setup::client_setup::set_up_client;
 use sr_words::command::{ClientWords, WarmWords};
 use sr_world::lines::mark_lines;
@@ -282,19 +279,8 @@ fn text_of_start(
     ensures { IfOk result (λ text. string_bytes text ≡ start_text schema.now id version marks) }
 {
     let lines = mark_lines(alloc, id, marks)?;
-    let mut text = text_of_lines(alloc, schema.as_slice(), lines.as_slice())?;
+    let mut text = lines_text(alloc, schema.as_slice(), 0, lines.as_slice())?;
     write!(text, "0 image {id} {version}\n")?;
-    Ok(text)
-}
-
-/// The text of lines that have number 0.
-fn text_of_lines(alloc: Global, tables: &[Table], lines: &[TraceLine]) -> Result<String, NoMemory>
-    ensures { IfOk result (λ text. string_bytes text ≡ flat_map (line_text tables.now 0) lines.now) }
-{
-    let mut text = String::new(alloc);
-    for line in lines {
-        push_line(&mut text, tables, 0, line)?;
-    }
     Ok(text)
 }
 

@@ -1,5 +1,5 @@
 //! Steps of a client, carried out over a link.
-ghost use Rattle.std.specs.Prelude.{◌≡◌, ◌≢◌, ◌≤◌, ◌+◌, true, false, flat_map, string_bytes, Result, IfOk, OnErr, if◌then◌else◌};
+ghost use Rattle.std.specs.Prelude.{◌≡◌, ◌≢◌, ◌≤◌, ◌+◌, true, false, flat_map, Result, IfOk, OnErr, if◌then◌else◌};
 ghost use Rattle.std.specs.List.{All};
 ghost use Rattle.sr_script.specs.TraceText.{line_text};
 ghost use Rattle.sr_wire.specs.Limits.{IsSendable};
@@ -23,7 +23,7 @@ use sr_io::whole::write_all;
 use sr_query::query::Query;
 use sr_reader::script::Event;
 use sr_script::line::TraceLine;
-use sr_script::text::push_line;
+use sr_script::text::lines_text;
 use sr_talk::serve::send_messages;
 use std::alloc::Global;
 
@@ -33,22 +33,6 @@ pub enum Handed {
     Whole,
     Broken,
     Unwritten,
-}
-
-/// The text of lines that have this number.
-fn text_of(
-    alloc: Global,
-    schema: &[Table],
-    number: u64,
-    lines: &[TraceLine],
-) -> Result<String, NoMemory>
-    ensures { IfOk result (λ text. string_bytes text ≡ flat_map (line_text schema.now number) lines.now) }
-{
-    let mut text = String::new(alloc);
-    for line in lines {
-        push_line(&mut text, schema, number, line)?;
-    }
-    Ok(text)
 }
 
 /// Writes a text. False where the sink fails.
@@ -84,7 +68,7 @@ fn say<K: Sink>(
     if !says {
         return Ok(true);
     }
-    let text = text_of(alloc, schema, number, lines)?;
+    let text = lines_text(alloc, schema, number, lines)?;
     write_text(sink, text.as_str())
 }
 

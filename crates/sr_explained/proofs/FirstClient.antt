@@ -1,6 +1,6 @@
 -- Client 1 of a world in which a script ran.
 use Rattle.std.proofs.Common.{◌≡◌, ℕ, zero, suc, ◌<◌, ◌≤◌, List, [], ◌∷◌, length, replicate, refl, sym, ◌∙◌, ap, subst, arith, Some}
-use Rattle.std.specs.Prelude.{slice_get, slice_index_or, Result}
+use Rattle.std.specs.Prelude.{slice_get, slice_index_or, Result, flat_map}
 use Rattle.std.proofs.lemmas.Option.{slice_get_read, slice_get_within}
 use Rattle.sr_cell.specs.declared.fault.Fault.{Fault}
 use Rattle.sr_cell.specs.declared.table.Table.{Table}
@@ -10,7 +10,7 @@ use Rattle.sr_policy.specs.declared.policy.Limits.{Limits}
 use Rattle.sr_query.specs.declared.query.Query as code
 use Rattle.sr_reader.specs.Read.{Means}
 use Rattle.sr_script.specs.declared.line.TraceLine.{TraceLine}
-use Rattle.sr_script.specs.TraceText.{trace_text}
+use Rattle.sr_script.specs.TraceText.{line_text, trace_text}
 use Rattle.sr_server.specs.Servers.{IsClientNumber}
 use Rattle.sr_explain.specs.Explained.{ExplainStep, count_in}
 use Rattle.sr_explain.specs.Telling.{ExplainsTo}
@@ -20,6 +20,7 @@ use Rattle.sr_session.specs.Scenes.{Event, Report, Scene, Runs, done, next, new_
 use Rattle.sr_session.specs.Bases.{basis_of}
 use Rattle.sr_client.specs.Stands.{Stands}
 use Rattle.sr_runs.specs.Runs.{numbered}
+use Rattle.sr_runs.proofs.LineLemmas.{numbered-text}
 use Rattle.sr_runs.proofs.PairLemmas.{still-there}
 use Rattle.sr_runs.proofs.StepLemmas.{runs-lead}
 use Rattle.sr_world.specs.declared.seat.Seat.{Seat}
@@ -104,6 +105,6 @@ tells-scene s seat meaning lines f tell =
 
 -- and the text of these lines is the one for the scene
 pub tells-text : (w : World) (s : Scene) (seat : Seat) (meaning : Result Query Fault) (schema : List Table) (lines printed : List TraceLine) (text : List ℕ) → Represents w s → FirstSeat s seat
-    → AreLinesFor seat.client meaning lines → schema ≡ w.server.tables.schema → printed ≡ lines → text ≡ trace_text schema (numbered 0 printed) → IsTextFor s meaning text
+    → AreLinesFor seat.client meaning lines → schema ≡ w.server.tables.schema → printed ≡ lines → text ≡ flat_map (line_text schema 0) printed → IsTextFor s meaning text
 tells-text w s seat meaning schema lines printed text r f tell known as_told same =
-    (lines, tells-scene s seat meaning lines f tell, same ∙ ap (λ tables. trace_text tables (numbered 0 printed)) (known ∙ r.server.knows.schema) ∙ ap (λ ls. trace_text s.database.schema (numbered 0 ls)) as_told)
+    (lines, tells-scene s seat meaning lines f tell, same ∙ numbered-text schema 0 printed ∙ ap (λ tables. trace_text tables (numbered 0 printed)) (known ∙ r.server.knows.schema) ∙ ap (λ ls. trace_text s.database.schema (numbered 0 ls)) as_told)

@@ -9,9 +9,7 @@ ghost use Rattle.sr_model.specs.Queries.{Query as TheQuery};
 ghost use Rattle.sr_reader.specs.Read.{Means};
 ghost use Rattle.sr_server.specs.Servers.{IsClientNumber};
 ghost use Rattle.sr_io.specs.Causes.{Rose};
-ghost use Rattle.sr_script.specs.TraceText.{trace_text};
 ghost use Rattle.sr_session.specs.Scenes.{Scene};
-ghost use Rattle.sr_runs.specs.Runs.{numbered};
 ghost use Rattle.sr_client.specs.Bound.{IsMeaning};
 ghost use Rattle.sr_client.specs.Stands.{Stands};
 ghost use Rattle.sr_world.specs.declared.replay.RunFault.{RunFault as TheRunFault};
@@ -23,7 +21,6 @@ ghost use Rattle.sr_explained.specs.After.{Behind, WroteBehind, WrotePart, IsRef
 use crate::nowhere::Nowhere;
 use sr_cell::fault::Fault;
 use sr_cell::list::{No, NoMemory, Seq};
-use sr_cell::table::Table;
 use sr_client::client::Client;
 use sr_io::outside::Sink;
 use sr_io::whole::write_all;
@@ -31,7 +28,7 @@ use sr_load::fill::Load;
 use sr_query::query::Query;
 use sr_reader::meaning::query_of;
 use sr_script::line::{TraceLine, TraceLines};
-use sr_script::text::push_line;
+use sr_script::text::lines_text;
 use sr_world::lines::lines_of_explain;
 use sr_world::replay::{RunFault, replay};
 use sr_world::world::{Options, World};
@@ -124,22 +121,12 @@ fn text_of(alloc: Global, world: &World, query: &Result<Query, Fault>) -> Result
     ensures { (s : Scene) (meaning : Result TheQuery TheFault) → Represents world.now s → Means world.now.server.tables.schema query.now meaning → IfOk result (λ text. IsTextFor s meaning (string_bytes text)) }
 {
     let lines = lines_for(alloc, &world.seats[0].client, query)?;
-    printed(
+    lines_text(
         alloc,
         world.server.tables.schema().as_slice(),
+        0,
         lines.as_slice(),
     )
-}
-
-/// The text of lines, each with number 0.
-fn printed(alloc: Global, schema: &[Table], lines: &[TraceLine]) -> Result<String, NoMemory>
-    ensures { IfOk result (λ text. string_bytes text ≡ trace_text schema.now (numbered 0 lines.now)) }
-{
-    let mut text = String::new(alloc);
-    for line in lines {
-        push_line(&mut text, schema, 0, line)?;
-    }
-    Ok(text)
 }
 
 /// The lines of how client 1 would answer a query, or of why its text is refused.

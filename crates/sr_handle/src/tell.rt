@@ -1,6 +1,5 @@
 //! The lines of an explanation, and what is said of it.
-ghost use Rattle.std.specs.Prelude.{◌≡◌, ◌<◌, ◌^◌, length, IfOk, flat_map, string_bytes};
-ghost use Rattle.sr_script.specs.TraceText.{line_text};
+ghost use Rattle.std.specs.Prelude.{◌≡◌, ◌<◌, IfOk};
 ghost use Rattle.sr_explain.specs.Telling.{explain_lines};
 ghost use Rattle.sr_handle.specs.Telling.{IsFew, explained_text, said_of_explained};
 
@@ -11,7 +10,7 @@ use sr_cell::table::Table;
 use sr_explain::explanation::Explanation;
 use sr_explain::lines::lines;
 use sr_script::line::{TraceLine, TraceLines};
-use sr_script::text::push_line;
+use sr_script::text::lines_text;
 use std::alloc::Global;
 
 /// What is said of an explanation, or of a text that is refused.
@@ -37,7 +36,7 @@ pub fn explained_text(
     ensures { IfOk result (λ text. text ≡ explained_text tables.now id explained.now) }
 {
     let lines = explained_lines(alloc, id, explained)?;
-    let text = lines_text(alloc, tables, lines.as_slice())?;
+    let text = lines_text(alloc, tables, 0, lines.as_slice())?;
     Ok(Seq::from_vec(text.into_bytes()))
 }
 
@@ -67,14 +66,4 @@ fn explained_lines(
             Ok(told)
         }
     }
-}
-
-fn lines_text(alloc: Global, tables: &[Table], lines: &[TraceLine]) -> Result<String, NoMemory>
-    ensures { IfOk result (λ text. string_bytes text ≡ flat_map (line_text tables.now 0) lines.now) }
-{
-    let mut text = String::new(alloc);
-    for line in lines {
-        push_line(&mut text, tables, 0, line)?;
-    }
-    Ok(text)
 }

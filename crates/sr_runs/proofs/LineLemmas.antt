@@ -1,11 +1,13 @@
 -- Lines of answers and asks are right, in the trace of each script.
 use Rattle.std.proofs.Common.{◌≡◌, ℕ, suc, ◌<◌, ◌≤◌, Bool, true, false, List, [], ◌∷◌, ◌++◌, length, length-append, refl, sym, ◌∙◌, ap, subst, arith, Some, inl, inr}
-use Rattle.std.specs.Prelude.{map, slice_get, ◌⊎◌, IsTrue}
+use Rattle.std.specs.Prelude.{map, flat_map, slice_get, ◌⊎◌, IsTrue}
 use Rattle.std.proofs.lemmas.List.{append-nil, append_assoc, map-append}
+use Rattle.sr_cell.specs.declared.table.Table.{Table}
 use Rattle.sr_message.specs.declared.message.AskPart.{AskPart}
 use Rattle.sr_model.specs.Queries.{Query, rows_of}
 use Rattle.sr_script.specs.declared.line.TraceLine.{TraceLine}
 use Rattle.sr_script.specs.declared.line.TraceLine.TheVariants as line
+use Rattle.sr_script.specs.TraceText.{line_text, trace_text}
 use Rattle.sr_session.specs.Sessions.{Database, newest, tables_of}
 use Rattle.sr_session.specs.Walks.{AskOut}
 use Rattle.sr_session.specs.Clients.{Pair}
@@ -29,6 +31,11 @@ use Rattle.sr_runs.proofs.ExplainLemmas.{no-head}
 use Rattle.sr_runs.proofs.MomentLemmas.{farther, lines-are-told, wider}
 use Rattle.sr_runs.proofs.PairLemmas.{still-there}
 use Rattle.sr_runs.proofs.StepLemmas.{runs-lead}
+
+-- lines that all have one number, as they are written one by one
+pub numbered-text : (schema : List Table) (number : ℕ) (lines : List TraceLine) → flat_map (line_text schema number) lines ≡ trace_text schema (numbered number lines)
+numbered-text schema number [] = refl
+numbered-text schema number (l ∷ lines) = ap (λ text. line_text schema number l ++ text) (numbered-text schema number lines)
 
 -- ---- what stays until the last scene
 

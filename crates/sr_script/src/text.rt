@@ -1,5 +1,5 @@
 //! The text of a trace.
-ghost use Rattle.std.specs.Prelude.{◌≡◌, ◌++◌, List, IfOk, OnOk, string_bytes};
+ghost use Rattle.std.specs.Prelude.{◌≡◌, ◌++◌, List, IfOk, OnOk, flat_map, string_bytes};
 ghost use Rattle.sr_script.specs.TraceText.{ended, line_words, line_text};
 
 use crate::forms::{
@@ -41,6 +41,22 @@ pub fn trace_text(
     let mut text = String::new(alloc);
     push_line(&mut text, schema, number, line)?;
     Ok(Text::from_string(text))
+}
+
+/// The text of lines that all have the number of one event.
+pub fn lines_text(
+    alloc: Global,
+    schema: &[Table],
+    number: u64,
+    lines: &[TraceLine],
+) -> Result<String, NoMemory>
+    ensures { IfOk result (λ text. string_bytes text ≡ flat_map (line_text schema.now number) lines.now) }
+{
+    let mut text = String::new(alloc);
+    for line in lines {
+        push_line(&mut text, schema, number, line)?;
+    }
+    Ok(text)
 }
 
 fn push_words(text: &mut String, schema: &[Table], line: &TraceLine) -> Result<(), NoMemory>

@@ -1,8 +1,9 @@
 -- From runs of some events to the trace of a script.
 use Rattle.std.proofs.Common.{◌≡◌, ℕ, Bool, true, List, [], ◌∷◌, ◌++◌, length, Option, Some, None, Ok, Err, refl, subst, sym, ◌∙◌, ap, append_assoc, append-nil, arith, inl, inr, suc, ◌+◌, ◌*◌, ◌<◌, ◌≤◌, ◌^◌}
-use Rattle.std.specs.Prelude.{◌⊎◌, IsTrue, IfOk, IsErrOf, Result}
+use Rattle.std.specs.Prelude.{◌⊎◌, IsTrue, IfOk, IsErrOf, Result, flat_map}
 use Rattle.std.specs.List.{list_all, AllZip}
 use Rattle.std.proofs.lemmas.Bool.{and_parts}
+use Rattle.std.proofs.lemmas.Result.{IfOk-weaker}
 use Rattle.std.proofs.lemmas.List.{length-replicate}
 use Rattle.std.proofs.Math.Seq.{take-length}
 use Rattle.std.specs.Io.KnownBytes.{Appends}
@@ -21,10 +22,11 @@ use Rattle.sr_reader.specs.declared.script.EventLine.{EventLine}
 use Rattle.sr_reader.specs.declared.script.Script.{Script}
 use Rattle.sr_reader.specs.Read.{Fits, IsRead, AreEvents, IsEvent, IsEventLine, event_fits}
 use Rattle.sr_script.specs.declared.line.TraceLine.{TraceLine}
-use Rattle.sr_script.specs.TraceText.{trace_text}
+use Rattle.sr_script.specs.TraceText.{line_text, trace_text}
 use Rattle.sr_session.specs.Scenes.{Scene, new_pair}
 use Rattle.sr_server.specs.Servers.{IsClientNumber}
 use Rattle.sr_runs.specs.Runs.{Steps, ends, numbered}
+use Rattle.sr_runs.proofs.LineLemmas.{numbered-text}
 use Rattle.sr_io.specs.Pieces.{WritesPrefix}
 use Rattle.sr_world.specs.declared.world.World.{World}
 use Rattle.sr_world.specs.declared.world.Options.{Options}
@@ -74,10 +76,12 @@ ran-text {T} {E} eager bytes (Err e) schema event old new lines does is = tt
 -- the text of a line's event
 pub ran-event : {T E : Type 0} (eager : Bool) (bytes : T → List ℕ) (r : Result T E) (schema tables : List Table) (line : EventLine) (event : ℕ × ScriptEvent) (old new : World) (lines : List TraceLine)
     → IsEventLine tables line event → ((meaning : ScriptEvent) → IsEvent tables line.event meaning → Goes (λ s. Steps eager s meaning) old new lines)
-    → IfOk r (λ text. bytes text ≡ trace_text schema (numbered line.number lines)) → IfOk r (λ text. Ran eager schema (event ∷ []) old new (bytes text))
-ran-event {T} {E} eager bytes r schema tables line event old new lines is does text =
+    → IfOk r (λ text. bytes text ≡ flat_map (line_text schema line.number) lines) → IfOk r (λ text. Ran eager schema (event ∷ []) old new (bytes text))
+ran-event {T} {E} eager bytes r schema tables line event old new lines is does told =
     subst (λ event. IfOk r (λ text. Ran eager schema (event ∷ []) old new (bytes text))) (sym is.2)
-    (ran-text eager bytes r schema (line.number, is.0) old new lines (does is.0 is.1) text)
+    (ran-text eager bytes r schema (line.number, is.0) old new lines (does is.0 is.1)
+    (IfOk-weaker r (λ text. bytes text ≡ flat_map (line_text schema line.number) lines) (λ text. bytes text ≡ trace_text schema (numbered line.number lines))
+    (λ text same. same ∙ numbered-text schema line.number lines) told))
 
 -- what a line that stands for an event says
 pub line-event : (tables : List Table) (line : EventLine) → (event : ℕ × ScriptEvent) × IsEventLine tables line event → (meaning : ScriptEvent) × IsEvent tables line.event meaning

@@ -13,8 +13,6 @@ ghost use Rattle.sr_reader.specs.Read.{Fits, IsEventLine, IsRead, event_fits};
 ghost use Rattle.sr_server.specs.Servers.{IsClientNumber};
 ghost use Rattle.sr_tables.specs.Stored.{no_rows};
 ghost use Rattle.sr_load.specs.Filling.{filled};
-ghost use Rattle.sr_script.specs.TraceText.{trace_text};
-ghost use Rattle.sr_runs.specs.Runs.{numbered};
 ghost use Rattle.sr_io.specs.Causes.{Rose};
 ghost use Rattle.sr_world.specs.declared.replay.RunFault.{RunFault as TheRunFault};
 ghost use Rattle.sr_world.specs.declared.replay.RunFault.TheVariants.{WriteFault, Line, Setup, Load as LoadRefused};
@@ -25,8 +23,7 @@ ghost use Rattle.sr_world.specs.Ran.{Ran, RanWhole, RanPart, TracedWhole, Traced
 
 use crate::world::{Options, World};
 use sr_cell::fault::Fault;
-use sr_cell::list::{No, NoMemory, Seq};
-use sr_cell::table::Table;
+use sr_cell::list::{No, NoMemory};
 use sr_cell::text::Text;
 use sr_io::outside::{Failed, Sink};
 use sr_io::whole::write_all;
@@ -35,8 +32,7 @@ use sr_reader::events::read_events;
 use sr_reader::head::created;
 use sr_reader::lines::{Lines, read_lines};
 use sr_reader::script::{EventLine, EventLines};
-use sr_script::line::TraceLine;
-use sr_script::text::push_line;
+use sr_script::text::lines_text;
 use sr_tables::tables::Tables;
 use std::alloc::Global;
 
@@ -271,21 +267,5 @@ fn event_text(alloc: Global, world: &mut World, line: EventLine) -> Result<Strin
     let EventLine { number, event } = line;
     let lines = world.step(alloc, event)?;
     let schema = world.server.tables.schema();
-    text_of(alloc, schema.as_slice(), number, lines.as_slice())
-}
-
-/// The text of the lines of an event of this number.
-fn text_of(
-    alloc: Global,
-    schema: &[Table],
-    number: u64,
-    lines: &[TraceLine],
-) -> Result<String, NoMemory>
-    ensures { IfOk result (λ text. string_bytes text ≡ trace_text schema.now (numbered number lines.now)) }
-{
-    let mut text = String::new(alloc);
-    for line in lines {
-        push_line(&mut text, schema, number, line)?;
-    }
-    Ok(text)
+    lines_text(alloc, schema.as_slice(), number, lines.as_slice())
 }

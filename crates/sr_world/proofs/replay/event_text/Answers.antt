@@ -8,6 +8,6 @@ step-requires-clause-means c = line-event _ c.args.line c.requires.means
 pub returns-clause-ran : goal.returns-clause-ran
 returns-clause-ran c = λ event is.
     let did = c.in_ok-lines.ensures in
-    let told = rw (c.as_slice.ensures, c.schema-schema.ensures, did.stays.schema, c.as_slice-2.ensures) at c.text_of.ensures in
-    ran-event c.args.world.now.eager string_bytes c.text_of.result c.args.world.now.server.tables.schema _ c.args.line event c.args.world.now _ _ is
+    let told = rw (c.as_slice.ensures, c.schema-schema.ensures, did.stays.schema, c.as_slice-2.ensures) at c.lines_text.ensures in
+    ran-event c.args.world.now.eager string_bytes c.lines_text.result c.args.world.now.server.tables.schema _ c.args.line event c.args.world.now _ _ is
     (λ meaning said s rep. did.steps s meaning rep said) told

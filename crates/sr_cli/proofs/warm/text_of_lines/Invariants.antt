@@ -1,6 +1,0 @@
-use Rattle.std.specs.Prelude.{◌≡◌, flat_map, string_bytes, take}
-use Rattle.sr_script.specs.TraceText.{line_text}
-use Rattle.sr_cli.proofs.warm.text_of_lines.Given as goal
-
-abbrev pub invariant-loop-line : goal.invariant-loop-line
-invariant-loop-line l = string_bytes l.text ≡ flat_map (line_text l.tables 0) (take l.line-index l.lines)

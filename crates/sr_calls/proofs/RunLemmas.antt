@@ -22,7 +22,7 @@ use Rattle.sr_dial.specs.declared.ending.Ending.{Ending}
 use Rattle.sr_dial.specs.declared.ending.Ending.TheVariants as ending
 use Rattle.sr_dial.specs.declared.parts.Answer.{Answer}
 use Rattle.sr_calls.specs.ClientEnds.{End, IsEnd, Stands, room_of}
-use Rattle.sr_calls.specs.Runs.{RanFrom, RanNew, RanNewInPart, RanOff, new_end, new_past}
+use Rattle.sr_calls.specs.Runs.{RanFrom, RanNew, RanNewInPart, RanNewSteadily, RanOff, RanSteadilyFrom, new_end, new_past}
 
 -- its end stands for its past
 pub new_stands : (id : ℕ) (schema : List Table) (limits : Limits) (keeps says : Bool) → list_all is_table schema ≡ true → Stands (new_end id schema limits keeps says) new_past
@@ -35,6 +35,11 @@ begins id schema limits keeps says tables rows = (refl, record { hidden = at_fir
 pub ran_new : (id : ℕ) (address : List ℕ) (schema : List Table) (limits : Limits) (keeps says : Bool) (plan : Plan Task Answer) (ended : Ending) (old new : Linking) (before after : Writing) (left : End) → list_all is_table schema ≡ true
     → RanFrom (new_end id schema limits keeps says) new_past address plan ended old new before after left → RanNew id address schema limits keeps says plan ended old new before after
 ran_new id address schema limits keeps says plan ended old new before after left tables ran = record { begins = begins id schema limits keeps says tables; left = left; ran = ran }
+
+pub ran_new_steadily : (Steady : Type 0) (id : ℕ) (address : List ℕ) (schema : List Table) (limits : Limits) (keeps says : Bool) (plan : Plan Task Answer) (ended : Ending) (old new : Linking) (before after : Writing) (left : End) → list_all is_table schema ≡ true
+    → RanSteadilyFrom Steady (new_end id schema limits keeps says) new_past address plan ended old new before after left → RanNewSteadily Steady id address schema limits keeps says plan ended old new before after
+ran_new_steadily Steady id address schema limits keeps says plan ended old new before after left tables ran =
+    record { run = record { begins = begins id schema limits keeps says tables; left = left; ran = ran.to }; steady_links = ran.steady_links }
 
 pub broke_new : (id : ℕ) (address : List ℕ) (schema : List Table) (limits : Limits) (keeps says : Bool) (plan : Plan Task Answer) (old new : Linking) (before after : Writing) → list_all is_table schema ≡ true
     → RanOff (new_end id schema limits keeps says) new_past address plan old new before after → RanNewInPart id address schema limits keeps says plan old new before after

@@ -1,5 +1,5 @@
 -- What a run of a client over a plan did.
-use Rattle.std.specs.Prelude.{ℕ, Bool, List, [], true, None}
+use Rattle.std.specs.Prelude.{ℕ, Bool, List, [], ◌∷◌, ◌++◌, true, None}
 use Rattle.sr_cell.specs.declared.table.Table.{Table}
 use Rattle.sr_io.specs.Told.{Linking, Writing}
 use Rattle.sr_model.specs.Statements.{Tables}
@@ -9,7 +9,7 @@ use Rattle.sr_session.specs.Clients.{from_query}
 use Rattle.sr_client.specs.Stands.{new_client}
 use Rattle.sr_plan.specs.Plans.{Plan}
 use Rattle.sr_dial.specs.Calls.{Task}
-use Rattle.sr_dial.specs.Runs.{RanInPart, RanTo}
+use Rattle.sr_dial.specs.Runs.{LinksSteadily, RanInPart, RanSteadily, RanTo}
 use Rattle.sr_dial.specs.declared.ending.Ending.{Ending}
 use Rattle.sr_dial.specs.declared.parts.Answer.{Answer}
 use Rattle.sr_calls.specs.ClientEnds.{End, HasTold, IsEnd, Stands, end_with, setting_of}
@@ -17,6 +17,10 @@ use Rattle.sr_calls.specs.ClientEnds.{End, HasTold, IsEnd, Stands, end_with, set
 -- A client's end that was of this past ran over a plan, dialled this address, ended so, and this is the end that it left.
 abbrev pub RanFrom : End → session.Client → List ℕ → Plan Task Answer → Ending → Linking → Linking → Writing → Writing → End → Type 0
 RanFrom end past address plan ended old new before after left = RanTo End Stands IsEnd HasTold (setting_of end) end past address plan ended old new before after left
+
+-- And over a steady host each failure was a connection's own end.
+abbrev pub RanSteadilyFrom : Type 0 → End → session.Client → List ℕ → Plan Task Answer → Ending → Linking → Linking → Writing → Writing → End → Type 0
+RanSteadilyFrom Steady end past address plan ended old new before after left = RanSteadily End Steady Stands IsEnd HasTold (setting_of end) end past address plan ended old new before after left
 
 -- Out of memory: the same, broken off.
 abbrev pub RanOff : End → session.Client → List ℕ → Plan Task Answer → Linking → Linking → Writing → Writing → Type 0
@@ -36,6 +40,11 @@ pub record RanNew (id : ℕ) (address : List ℕ) (schema : List Table) (limits 
   pub begins : (tables : Tables) → IsEnd schema (new_end id schema limits keeps says) new_past tables
   pub left : End
   pub ran : RanFrom (new_end id schema limits keeps says) new_past address plan ended old new before after left
+
+-- And over a steady host each failure was a connection's own end.
+pub record RanNewSteadily (Steady : Type 0) (id : ℕ) (address : List ℕ) (schema : List Table) (limits : Limits) (keeps says : Bool) (plan : Plan Task Answer) (ended : Ending) (old new : Linking) (before after : Writing) : Type 0 where
+  pub run : RanNew id address schema limits keeps says plan ended old new before after
+  pub steady_links : LinksSteadily Steady (run.ran.run.ran.earlier ++ run.ran.run.ran.last ∷ []) old new
 
 -- Out of memory: the same, broken off. What was sent and written begins what the rules give.
 pub record RanNewInPart (id : ℕ) (address : List ℕ) (schema : List Table) (limits : Limits) (keeps says : Bool) (plan : Plan Task Answer) (old new : Linking) (before after : Writing) : Type 0 where

@@ -9,7 +9,7 @@ ghost use Rattle.sr_dial.specs.Following.{Ahead};
 ghost use Rattle.sr_dial.specs.declared.ending.Ending.TheVariants.{Unwritten};
 ghost use Rattle.sr_talk.specs.Rounds.{OnlyOutput};
 ghost use Rattle.sr_calls.specs.ClientEnds.{room_of, setting_of};
-ghost use Rattle.sr_calls.specs.Runs.{RanFrom, RanOff};
+ghost use Rattle.sr_calls.specs.Runs.{RanOff, RanSteadilyFrom};
 
 use crate::client_end::ClientEnd;
 use sr_cell::list::NoMemory;
@@ -36,7 +36,7 @@ pub fn run_plan<H: Host, P: Plans>(
     requires fresh { end.old.answer ≡ None }
     ensures ran { (past : Past) (ahead : Ahead) → StandsFor past end.old.client → past.cut ≡ true → past.out ≡ None
         → P.follows schema.now plans.old ahead
-        → IfOk result (λ ended. RanFrom end.old past address.now (Next 0 (Do Resumed) ahead) ended
+        → IfOk result (λ ended. RanSteadilyFrom (H.IsSteady host.old) end.old past address.now (Next 0 (Do Resumed) ahead) ended
         (H.linking host.old) (H.linking host.new) (H.writing host.old) (H.writing host.new) end.new) }
     ensures broken_off { (past : Past) (ahead : Ahead) → StandsFor past end.old.client → past.cut ≡ true → past.out ≡ None
         → P.follows schema.now plans.old ahead

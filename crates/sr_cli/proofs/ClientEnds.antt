@@ -22,7 +22,7 @@ use Rattle.sr_cli.proofs.LeavesLemmas.{HasName, InWant, NamesLine, NamesRefused,
 
 module _ (H : Type 0) (held : H → List ℕ → Option (List ℕ)) (reading : H → Reading) (writing : H → Writing) (linking : H → Linking) (complaints : H → Option (List ℕ)) (IsSteady : H → Type 0) (words : ClientWords) where
   abbrev pub Ran : H → H → Ending → Type 0
-  Ran old new ending = Dialled (held old) words ending (linking old) (linking new) (writing old) (writing new)
+  Ran old new ending = Dialled (IsSteady old) (held old) words ending (linking old) (linking new) (writing old) (writing new)
 
   abbrev pub Ends : H → H → ℕ → Type 0
   Ends old new status = Dials H held reading writing linking complaints IsSteady old new words status
@@ -59,10 +59,10 @@ module _ (H : Type 0) (held : H → List ℕ → Option (List ℕ)) (reading : H
     moved P holds = subst (λ (l : Linking). P l (writing new)) (sym stays.linking_stays) (subst (P (linking mid)) (sym stays.writing_stays) holds)
 
     ran-still : (ending : Ending) → Ran old mid ending → Ran old new ending
-    ran-still ending = moved (λ l w. Dialled (held old) words ending (linking old) l (writing old) w)
+    ran-still ending = moved (λ l w. Dialled (IsSteady old) (held old) words ending (linking old) l (writing old) w)
 
     dials-frames : (status : ℕ) (ending : Ending) → is_unwritten ending ≡ false → EndsByFrames status → Ran old new ending
-        → (status ≡ 8 → NamedFrame (held old) words (linking old) (linking new) (writing old) (writing new) (complaints old) (complaints new)) → (status ≡ 11 → ending ≡ TooMany) → Ends old new status
+        → (status ≡ 8 → NamedFrame (IsSteady old) (held old) words (linking old) (linking new) (writing old) (writing new) (complaints old) (complaints new)) → (status ≡ 11 → ending ≡ TooMany) → Ends old new status
     dials-frames status ending each which ran frame limit = record {
       only = end_written status (inr which);
       whole = λ is. absurd (omega (arith, which, is));
@@ -99,12 +99,12 @@ module _ (H : Type 0) (held : H → List ℕ → Option (List ℕ)) (reading : H
     -- ---- it was refused, or something failed
 
     module _ (refusal : Refusal) (status : ℕ) (reported : Reported refusal status (complaints mid) (complaints new)) (counts : Counts H reading writing linking old mid (Err refusal))
-        (why : StopsOver (held old) words (reading mid).left (linking old) (linking mid) (writing old) (writing mid) (Refused refusal)) where
+        (why : StopsOver (IsSteady old) (held old) words (reading mid).left (linking old) (linking mid) (writing old) (writing mid) (Refused refusal)) where
       rep : Report refusal status (complaints mid) (complaints new)
       rep = reported-is refusal status (complaints mid) (complaints new) reported
 
-      being : (r : Refusal) → refusal ≡ r → StopsOver (held old) words (reading mid).left (linking old) (linking mid) (writing old) (writing mid) (Refused r)
-      being r is = subst (λ r. StopsOver (held old) words (reading mid).left (linking old) (linking mid) (writing old) (writing mid) (Refused r)) is why
+      being : (r : Refusal) → refusal ≡ r → StopsOver (IsSteady old) (held old) words (reading mid).left (linking old) (linking mid) (writing old) (writing mid) (Refused r)
+      being r is = subst (λ r. StopsOver (IsSteady old) (held old) words (reading mid).left (linking old) (linking mid) (writing old) (writing mid) (Refused r)) is why
 
       is-end : (status ≡ 3) ⊎ (status ≡ 4) ⊎ (status ≡ 5) ⊎ (status ≡ 6) ⊎ (status ≡ 7) ⊎ (status ≡ 9) ⊎ (status ≡ 10) → IsEnd status
       is-end (inl is) = inr (inl is)

@@ -23,9 +23,9 @@ use Rattle.sr_cli.proofs.SameFiles.{same_bytes, too_long_held}
 -- ---- a run that ended
 
 -- where each line was written, what it sent and wrote begins what the rules give
-pub dialled_in_part : (held : List ℕ → Option (List ℕ)) (words : ClientWords) (ending : Ending) (old new : Linking) (before after : Writing) → is_unwritten ending ≡ false → Dialled held words ending old new before after
+pub dialled_in_part : {Z : Type 0} (held : List ℕ → Option (List ℕ)) (words : ClientWords) (ending : Ending) (old new : Linking) (before after : Writing) → is_unwritten ending ≡ false → Dialled Z held words ending old new before after
     → DialledInPart held words old new before after
-dialled_in_part held words ending old new before after each d = record {
+dialled_in_part {Z} held words ending old new before after each d = record {
   schema = d.schema;
   script = d.script;
   files = d.files;
@@ -33,7 +33,7 @@ dialled_in_part held words ending old new before after each d = record {
     tables = d.ends.tables;
     ahead = d.ends.ahead;
     asks = d.ends.asks;
-    ran = ended_in_part words.id words.address d.ends.tables words.limits (keeps_of words.kind) true (Next 0 (Do Resumed) d.ends.ahead) ending old new before after each d.ends.ran;
+    ran = ended_in_part words.id words.address d.ends.tables words.limits (keeps_of words.kind) true (Next 0 (Do Resumed) d.ends.ahead) ending old new before after each d.ends.ran.run;
   };
 }
 
@@ -87,11 +87,11 @@ accepted_for kind.Client id schema script tables ahead asks = record { inside = 
 accepted_for kind.Report id schema script tables ahead asks = record { inside = asks.inside; accepts = λ line fault r. asks.accepts line fault r.first }
 accepted_for kind.Semi id schema script tables ahead asks = record { inside = asks.inside; accepts = λ line fault r. asks.accepts line fault r.first }
 
-pub accepted : (schema script : List ℕ) (words : ClientWords) (ending : Ending) (old new : Linking) (before after : Writing) → Ends schema script words ending old new before after → Accepted (fault_by words) schema script
-accepted schema script words ending old new before after ends = accepted_for words.kind words.id schema script ends.tables ends.ahead ends.asks
+pub accepted : {Z : Type 0} (schema script : List ℕ) (words : ClientWords) (ending : Ending) (old new : Linking) (before after : Writing) → Ends Z schema script words ending old new before after → Accepted (fault_by words) schema script
+accepted {Z} schema script words ending old new before after ends = accepted_for words.kind words.id schema script ends.tables ends.ahead ends.asks
 
-pub some_accepted : (held : List ℕ → Option (List ℕ)) (words : ClientWords) (ending : Ending) (old new : Linking) (before after : Writing) → Dialled held words ending old new before after → Named held words (Accepted (fault_by words))
-some_accepted held words ending old new before after d =
+pub some_accepted : {Z : Type 0} (held : List ℕ → Option (List ℕ)) (words : ClientWords) (ending : Ending) (old new : Linking) (before after : Writing) → Dialled Z held words ending old new before after → Named held words (Accepted (fault_by words))
+some_accepted {Z} held words ending old new before after d =
     record { schema = d.schema; script = d.script; files = d.files; holds = accepted d.schema d.script words ending old new before after d.ends }
 
 -- why a run ended with a status
@@ -146,9 +146,9 @@ end_written status (inr (inl is)) = inr (inr (inr (inr (inr (inr (inl is))))))
 end_written status (inr (inr (inl is))) = inr (inr (inr (inr (inr (inr (inr (inl is)))))))
 end_written status (inr (inr (inr is))) = inr (inr (inr (inr (inr (inr (inr (inr (inr is))))))))
 
-pub causes_dialled : (held : List ℕ → Option (List ℕ)) (left : Option (List ℕ)) (words : ClientWords) (status : ℕ) (ending : Ending) (old new : Linking) (before after : Writing) → EndsWritten status → Dialled held words ending old new before after
+pub causes_dialled : {Z : Type 0} (held : List ℕ → Option (List ℕ)) (left : Option (List ℕ)) (words : ClientWords) (status : ℕ) (ending : Ending) (old new : Linking) (before after : Writing) → EndsWritten status → Dialled Z held words ending old new before after
     → Causes held left words status
-causes_dialled held left words status ending old new before after which d = record {
+causes_dialled {Z} held left words status ending old new before after which d = record {
   only = end_written status which;
   no_read_fault = λ is. omega (arith, which, is);
   too_long = λ is. absurd (omega (arith, which, is));

@@ -3,7 +3,7 @@ use Rattle.std.proofs.Common.{◌≡◌, ◌≢◌, ℕ, ◌⊎◌, true, List, 
 use Rattle.std.specs.Prelude.{Err, IfErr, Ok, Option, Result, Some}
 use Rattle.std.specs.Cmp.{first_so, second_so}
 use Rattle.std.specs.List.{list_all, AllZip}
-use Rattle.sr_calls.specs.Runs.{RanNew, RanNewInPart}
+use Rattle.sr_calls.specs.Runs.{RanNewInPart, RanNewSteadily}
 use Rattle.sr_cell.specs.declared.list.No.{No}
 use Rattle.sr_cell.specs.declared.list.No.TheVariants.{Refused as NoBut, NoMemory as Wanting}
 use Rattle.sr_cell.specs.declared.table.Table.{Table}
@@ -66,13 +66,13 @@ some_ahead id schema script tables lines asked =
     )
 
 -- a client of this kind, for which the files ask so, ran, and ended so
-pub ends_for : (schema script : List ℕ) (words : ClientWords) (k : ClientKind) (tables : List Table) (ahead : Ahead) (ending : Ending) (old new : Linking) (before after : Writing) → words.kind ≡ k → AsksFor k words.id schema script tables ahead
-    → RanNew words.id words.address tables words.limits (keeps_of k) true (Next 0 (Do Resumed) ahead) ending old new before after → Ends schema script words ending old new before after
-ends_for schema script words k tables ahead ending old new before after is asks ran = record {
+pub ends_for : {Z : Type 0} (schema script : List ℕ) (words : ClientWords) (k : ClientKind) (tables : List Table) (ahead : Ahead) (ending : Ending) (old new : Linking) (before after : Writing) → words.kind ≡ k → AsksFor k words.id schema script tables ahead
+    → RanNewSteadily Z words.id words.address tables words.limits (keeps_of k) true (Next 0 (Do Resumed) ahead) ending old new before after → Ends Z schema script words ending old new before after
+ends_for {Z} schema script words k tables ahead ending old new before after is asks ran = record {
   tables = tables;
   ahead = ahead;
   asks = subst (λ kind. AsksFor kind words.id schema script tables ahead) (sym is) asks;
-  ran = subst (λ kind. RanNew words.id words.address tables words.limits (keeps_of kind) true (Next 0 (Do Resumed) ahead) ending old new before after) (sym is) ran;
+  ran = subst (λ kind. RanNewSteadily Z words.id words.address tables words.limits (keeps_of kind) true (Next 0 (Do Resumed) ahead) ending old new before after) (sym is) ran;
 }
 
 -- or was broken off, out of memory
@@ -94,32 +94,32 @@ unset_written (NoBut (fault.Line at place)) is = cc
 unset_written (NoBut (fault.Create at why)) is = cc
 
 -- files that are not set up
-pub stops_unset : (schema script : List ℕ) (words : ClientWords) (no : No ClientFault) (l : Linking) (w : Writing)
+pub stops_unset : (Z : Type 0) (schema script : List ℕ) (words : ClientWords) (no : No ClientFault) (l : Linking) (w : Writing)
     → ((line place : ℕ) → no ≡ NoBut (fault.Line line place) → script_outside (fault_by words) schema script ≡ Some (record { line = line; place = place }))
-    → ((line : ℕ) (why : Fault) → no ≡ NoBut (fault.Create line why) → RefusesCreate (fault_by words) schema script line why) → Stops schema script words l l w w (stop_of no)
-stops_unset schema script words Wanting l w line create = inl (record { linking = refl; writing = refl })
-stops_unset schema script words (NoBut (fault.Line at place)) l w line create = (line at place refl, record { linking = refl; writing = refl })
-stops_unset schema script words (NoBut (fault.Create at why)) l w line create = (create at why refl, record { linking = refl; writing = refl })
+    → ((line : ℕ) (why : Fault) → no ≡ NoBut (fault.Create line why) → RefusesCreate (fault_by words) schema script line why) → Stops Z schema script words l l w w (stop_of no)
+stops_unset Z schema script words Wanting l w line create = inl (record { linking = refl; writing = refl })
+stops_unset Z schema script words (NoBut (fault.Line at place)) l w line create = (line at place refl, record { linking = refl; writing = refl })
+stops_unset Z schema script words (NoBut (fault.Create at why)) l w line create = (create at why refl, record { linking = refl; writing = refl })
 
-ends_as : (schema script : List ℕ) (words : ClientWords) (old new : Linking) (before after : Writing) (ending other : Ending) → (let some : Option Ending = Some other in some) ≡ Some ending → Ends schema script words ending old new before after
-    → Ends schema script words other old new before after
-ends_as schema script words old new before after ending other is ends =
+ends_as : (Z : Type 0) (schema script : List ℕ) (words : ClientWords) (old new : Linking) (before after : Writing) (ending other : Ending) → (let some : Option Ending = Some other in some) ≡ Some ending → Ends Z schema script words ending old new before after
+    → Ends Z schema script words other old new before after
+ends_as Z schema script words old new before after ending other is ends =
     let same : ending ≡ other = cc in
-    subst (λ e. Ends schema script words e old new before after) same ends
+    subst (λ e. Ends Z schema script words e old new before after) same ends
 
-pub stops_by : (schema script : List ℕ) (words : ClientWords) (old new : Linking) (before after : Writing) (ending : Ending) (why : Stop) → ending_of why ≡ Some ending → Ends schema script words ending old new before after
-    → Stops schema script words old new before after why
-stops_by schema script words old new before after ending (stop.Refused refusal.Write) is ends = ends_as schema script words old new before after ending Unwritten is ends
-stops_by schema script words old new before after ending (stop.Refused refusal.Link) is ends = ends_as schema script words old new before after ending Faulty is ends
-stops_by schema script words old new before after ending (stop.Refused refusal.Read) is ends = absurd cc
-stops_by schema script words old new before after ending (stop.Refused refusal.Memory) is ends = absurd cc
-stops_by schema script words old new before after ending (stop.Refused refusal.TooLong) is ends = absurd cc
-stops_by schema script words old new before after ending (stop.Refused (refusal.Line line place)) is ends = absurd cc
-stops_by schema script words old new before after ending (stop.Refused (refusal.Setup line why)) is ends = absurd cc
-stops_by schema script words old new before after ending (stop.Refused (refusal.Load table why)) is ends = absurd cc
-stops_by schema script words old new before after ending (stop.Spoiled fault) is ends = ends_as schema script words old new before after ending (Spoiled fault) is ends
-stops_by schema script words old new before after ending (stop.Bad why) is ends = ends_as schema script words old new before after ending (BadMessage why) is ends
-stops_by schema script words old new before after ending stop.Limit is ends = ends_as schema script words old new before after ending TooMany is ends
+pub stops_by : (Z : Type 0) (schema script : List ℕ) (words : ClientWords) (old new : Linking) (before after : Writing) (ending : Ending) (why : Stop) → ending_of why ≡ Some ending → Ends Z schema script words ending old new before after
+    → Stops Z schema script words old new before after why
+stops_by Z schema script words old new before after ending (stop.Refused refusal.Write) is ends = ends_as Z schema script words old new before after ending Unwritten is ends
+stops_by Z schema script words old new before after ending (stop.Refused refusal.Link) is ends = ends_as Z schema script words old new before after ending Faulty is ends
+stops_by Z schema script words old new before after ending (stop.Refused refusal.Read) is ends = absurd cc
+stops_by Z schema script words old new before after ending (stop.Refused refusal.Memory) is ends = absurd cc
+stops_by Z schema script words old new before after ending (stop.Refused refusal.TooLong) is ends = absurd cc
+stops_by Z schema script words old new before after ending (stop.Refused (refusal.Line line place)) is ends = absurd cc
+stops_by Z schema script words old new before after ending (stop.Refused (refusal.Setup line why)) is ends = absurd cc
+stops_by Z schema script words old new before after ending (stop.Refused (refusal.Load table why)) is ends = absurd cc
+stops_by Z schema script words old new before after ending (stop.Spoiled fault) is ends = ends_as Z schema script words old new before after ending (Spoiled fault) is ends
+stops_by Z schema script words old new before after ending (stop.Bad why) is ends = ends_as Z schema script words old new before after ending (BadMessage why) is ends
+stops_by Z schema script words old new before after ending stop.Limit is ends = ends_as Z schema script words old new before after ending TooMany is ends
 
 -- a run that ended without a line that is not written does not stop for that
 pub stops_written : (ending : Ending) (why : Stop) → ending ≢ Unwritten → ending_of why ≡ Some ending → why ≢ stop.Refused refusal.Write
@@ -129,24 +129,34 @@ stops_written ending why written is wrong =
 
 -- ---- over the files that the words name
 
-pub over-files : (held : List ℕ → Option (List ℕ)) (words : ClientWords) (left : Option (List ℕ)) (schema script : List ℕ) (old new : Linking) (before after : Writing) (why : Stop)
-    → AreFiles held words schema script → Stops schema script words old new before after why → StopsOver held words left old new before after why
-over-files held words left schema script old new before after (stop.Refused refusal.Read) files stops = absurd stops
-over-files held words left schema script old new before after (stop.Refused refusal.TooLong) files stops = absurd stops
-over-files held words left schema script old new before after (stop.Refused refusal.Write) files stops = record { schema = schema; script = script; files = files; ends = stops }
-over-files held words left schema script old new before after (stop.Refused refusal.Link) files stops = record { schema = schema; script = script; files = files; ends = stops }
-over-files held words left schema script old new before after (stop.Refused refusal.Memory) files (inl none) = inl none
-over-files held words left schema script old new before after (stop.Refused refusal.Memory) files (inr part) = inr (record { schema = schema; script = script; files = files; ends = part })
-over-files held words left schema script old new before after (stop.Refused (refusal.Line line place)) files stops = record { schema = schema; script = script; files = files; first = stops.0 }
-over-files held words left schema script old new before after (stop.Refused (refusal.Setup line fault)) files stops = record { schema = schema; script = script; files = files; refuses = stops.0 }
-over-files held words left schema script old new before after (stop.Refused (refusal.Load table fault)) files stops = absurd stops
-over-files held words left schema script old new before after (stop.Spoiled fault) files stops = record { schema = schema; script = script; files = files; ends = stops }
-over-files held words left schema script old new before after (stop.Bad why) files stops = record { schema = schema; script = script; files = files; ends = stops }
-over-files held words left schema script old new before after stop.Limit files stops = record { schema = schema; script = script; files = files; ends = stops }
+-- what is so over a host that was steady is so over one that was steady before
+pub ends_later : (Z Y : Type 0) (schema script : List ℕ) (words : ClientWords) (ending : Ending) (old new : Linking) (before after : Writing) → (Z → Y) → Ends Y schema script words ending old new before after → Ends Z schema script words ending old new before after
+ends_later Z Y schema script words ending old new before after later e =
+    record { tables = e.tables; ahead = e.ahead; asks = e.asks; ran = record { run = e.ran.run; steady_links = λ z. e.ran.steady_links (later z) } }
+
+pub over-files : (Z Y : Type 0) (later : Z → Y) (held : List ℕ → Option (List ℕ)) (words : ClientWords) (left : Option (List ℕ)) (schema script : List ℕ) (old new : Linking) (before after : Writing) (why : Stop)
+    → AreFiles held words schema script → Stops Y schema script words old new before after why → StopsOver Z held words left old new before after why
+over-files Z Y later held words left schema script old new before after (stop.Refused refusal.Read) files stops = absurd stops
+over-files Z Y later held words left schema script old new before after (stop.Refused refusal.TooLong) files stops = absurd stops
+over-files Z Y later held words left schema script old new before after (stop.Refused refusal.Write) files stops =
+    record { schema = schema; script = script; files = files; ends = ends_later Z Y schema script words Unwritten old new before after later stops }
+over-files Z Y later held words left schema script old new before after (stop.Refused refusal.Link) files stops =
+    record { schema = schema; script = script; files = files; ends = ends_later Z Y schema script words Faulty old new before after later stops }
+over-files Z Y later held words left schema script old new before after (stop.Refused refusal.Memory) files (inl none) = inl none
+over-files Z Y later held words left schema script old new before after (stop.Refused refusal.Memory) files (inr part) = inr (record { schema = schema; script = script; files = files; ends = part })
+over-files Z Y later held words left schema script old new before after (stop.Refused (refusal.Line line place)) files stops = record { schema = schema; script = script; files = files; first = stops.0 }
+over-files Z Y later held words left schema script old new before after (stop.Refused (refusal.Setup line fault)) files stops = record { schema = schema; script = script; files = files; refuses = stops.0 }
+over-files Z Y later held words left schema script old new before after (stop.Refused (refusal.Load table fault)) files stops = absurd stops
+over-files Z Y later held words left schema script old new before after (stop.Spoiled fault) files stops =
+    record { schema = schema; script = script; files = files; ends = ends_later Z Y schema script words (Spoiled fault) old new before after later stops }
+over-files Z Y later held words left schema script old new before after (stop.Bad why) files stops =
+    record { schema = schema; script = script; files = files; ends = ends_later Z Y schema script words (BadMessage why) old new before after later stops }
+over-files Z Y later held words left schema script old new before after stop.Limit files stops =
+    record { schema = schema; script = script; files = files; ends = ends_later Z Y schema script words TooMany old new before after later stops }
 
 -- ---- what is counted
 
-module _ (H : Type 0) (reading : H → Reading) (writing : H → Writing) (linking : H → Linking) (schema script : List ℕ) (words : ClientWords) (old mid new : H)
+module _ (Z : Type 0) (H : Type 0) (reading : H → Reading) (writing : H → Writing) (linking : H → Linking) (schema script : List ℕ) (words : ClientWords) (old mid new : H)
     (kept : (reading mid).faults ≡ (reading old).faults) (read : reading new ≡ reading mid) (write : writing mid ≡ writing old) (link : linking mid ≡ linking old) where
   same : (reading new).faults ≡ (reading old).faults
   same = ap (λ (r : Reading). r.faults) read ∙ kept
@@ -154,11 +164,11 @@ module _ (H : Type 0) (reading : H → Reading) (writing : H → Writing) (linki
   nothing : Untouched (linking mid) (linking new) (writing mid) (writing new) → DidNothing H writing linking old new
   nothing none = record { writing_stays = none.writing ∙ write; linking_stays = none.linking ∙ link }
 
-  rose : Ends schema script words Unwritten (linking mid) (linking new) (writing mid) (writing new) → Rose (writing old).faults (writing new).faults
-  rose ends = subst (λ (w : Writing). Rose w.faults (writing new).faults) write ends.ran.ran.run.ran.writes.2
+  rose : Ends Z schema script words Unwritten (linking mid) (linking new) (writing mid) (writing new) → Rose (writing old).faults (writing new).faults
+  rose ends = subst (λ (w : Writing). Rose w.faults (writing new).faults) write ends.ran.run.ran.run.ran.writes.2
 
   -- behind the reading of files
-  pub counts-stopped : (result : Result (Unit {0}) Stop) → IfErr result (Stops schema script words (linking mid) (linking new) (writing mid) (writing new)) → CountsStop H reading writing linking old new result
+  pub counts-stopped : (result : Result (Unit {0}) Stop) → IfErr result (Stops Z schema script words (linking mid) (linking new) (writing mid) (writing new)) → CountsStop H reading writing linking old new result
   counts-stopped (Ok done) stops = same
   counts-stopped (Err (stop.Refused refusal.Read)) stops = absurd stops
   counts-stopped (Err (stop.Refused refusal.TooLong)) stops = absurd stops

@@ -38,24 +38,24 @@ kinds-ask kind.Semi id schema script tables ahead asks = asks-same ahead _ asks.
 
 -- ---- over an honest link
 
-pub runs-are-true : RunsAreTrue
-runs-are-true schema script words ending old new before after s pieces ends honest =
+pub runs-are-true : {H : Type 0} (IsSteady : H → Type 0) → RunsAreTrue IsSteady
+runs-are-true {H} IsSteady host schema script words ending old new before after s pieces ends honest =
     new-honest-runs-are-true words.id words.address ends.tables words.limits (keeps_of words.kind) true s pieces (Next 0 (Do Resumed) ends.ahead) ending old new before after
-    (kinds-ask words.kind words.id schema script ends.tables ends.ahead ends.asks) ends.ran honest
+    (kinds-ask words.kind words.id schema script ends.tables ends.ahead ends.asks) ends.ran.run honest
 
-pub joins-are-right : JoinsAreRight
-joins-are-right schema script words ending old new before after s pieces semi ends honest =
-    let ran = ends.ran.ran.run.ran in
+pub joins-are-right : {H : Type 0} (IsSteady : H → Type 0) → JoinsAreRight IsSteady
+joins-are-right {H} IsSteady host schema script words ending old new before after s pieces semi ends honest =
+    let ran = ends.ran.run.ran.run.ran in
     key-sets-are-right {C = End} (keeps_of words.kind) (server_at_last s pieces).database words.limits new_past (all_done (calls_of ends)) words.id schema script ends.tables ends.ahead
     (subst (λ k. AsksFor k words.id schema script ends.tables ends.ahead) semi ends.asks) ((last-more s pieces honest.some).grows.schema ∙ honest.schema_is) honest.sound ran.in_place ran.goes
-    (runs-are-true schema script words ending old new before after s pieces ends honest).steps
+    (runs-are-true IsSteady host schema script words ending old new before after s pieces ends honest).steps
 
-pub groups-are-right : GroupsAreRight
-groups-are-right schema script words ending old new before after s pieces report ends honest =
-    let ran = ends.ran.ran.run.ran in
+pub groups-are-right : {H : Type 0} (IsSteady : H → Type 0) → GroupsAreRight IsSteady
+groups-are-right {H} IsSteady host schema script words ending old new before after s pieces report ends honest =
+    let ran = ends.ran.run.ran.run.ran in
     reports-are-right {C = End} (keeps_of words.kind) (server_at_last s pieces).database words.limits new_past (all_done (calls_of ends)) words.id schema script ends.tables ends.ahead
     (subst (λ k. AsksFor k words.id schema script ends.tables ends.ahead) report ends.asks) ran.in_place ran.goes
-    (runs-are-true schema script words ending old new before after s pieces ends honest).steps
+    (runs-are-true IsSteady host schema script words ending old new before after s pieces ends honest).steps
 
 pub warm-runs-are-true : WarmRunsAreTrue
 warm-runs-are-true schema script words tables ahead bytes ending old new before after s pieces asks warms image honest =

@@ -22,29 +22,29 @@ use Rattle.sr_cli.specs.Image.{Warms}
 use Rattle.sr_cli.specs.Kinds.{AsksLines}
 
 -- the calls of a run
-abbrev pub calls_of : {schema script : List ℕ} {words : ClientWords} {ending : Ending} {old new : Linking} {before after : Writing}
-    → Ends schema script words ending old new before after → List (Call End)
-calls_of {schema} {script} {words} {ending} {old} {new} {before} {after} ends = ends.ran.ran.run.ran.earlier ++ ends.ran.ran.run.ran.last ∷ []
+abbrev pub calls_of : {Steady : Type 0} {schema script : List ℕ} {words : ClientWords} {ending : Ending} {old new : Linking} {before after : Writing}
+    → Ends Steady schema script words ending old new before after → List (Call End)
+calls_of {Steady} {schema} {script} {words} {ending} {old} {new} {before} {after} ends = ends.ran.run.ran.run.ran.earlier ++ ends.ran.run.ran.run.ran.last ∷ []
 
 -- Of each kind each step of it is true: an answer has the rows of its query on the server's tables at the version that it names.
-abbrev pub RunsAreTrue : Type 0
-RunsAreTrue = (schema script : List ℕ) (words : ClientWords) (ending : Ending) (old new : Linking) (before after : Writing)
-    (s : Server) (pieces : List (List Input)) → (ends : Ends schema script words ending old new before after) → IsHonest ends.tables s pieces (calls_of ends)
+abbrev pub RunsAreTrue : {H : Type 0} → (H → Type 0) → Type 0
+RunsAreTrue {H} IsSteady = (host : H) (schema script : List ℕ) (words : ClientWords) (ending : Ending) (old new : Linking) (before after : Writing)
+    (s : Server) (pieces : List (List Input)) → (ends : Ends (IsSteady host) schema script words ending old new before after) → IsHonest ends.tables s pieces (calls_of ends)
     → IsTrue (server_at_last s pieces).database words.limits new_past (calls_of ends) ending
 
 -- Each text that `semi` writes for a join tells the rows of the join that a line of its script asks, on the server's tables at the version
 -- that it names.
-abbrev pub JoinsAreRight : Type 0
-JoinsAreRight = (schema script : List ℕ) (words : ClientWords) (ending : Ending) (old new : Linking) (before after : Writing)
+abbrev pub JoinsAreRight : {H : Type 0} → (H → Type 0) → Type 0
+JoinsAreRight {H} IsSteady = (host : H) (schema script : List ℕ) (words : ClientWords) (ending : Ending) (old new : Linking) (before after : Writing)
     (s : Server) (pieces : List (List Input)) → words.kind ≡ kind.Semi
-    → (ends : Ends schema script words ending old new before after) → IsHonest ends.tables s pieces (calls_of ends)
+    → (ends : Ends (IsSteady host) schema script words ending old new before after) → IsHonest ends.tables s pieces (calls_of ends)
     → AllSaid (keyset.IsRightText ends.tables (server_at_last s pieces).database (words_in script)) (all_done (calls_of ends))
 
 -- Each text that `report` writes for an aggregate says what it tells of the server's tables at the version that it names, or why it is refused.
-abbrev pub GroupsAreRight : Type 0
-GroupsAreRight = (schema script : List ℕ) (words : ClientWords) (ending : Ending) (old new : Linking) (before after : Writing)
+abbrev pub GroupsAreRight : {H : Type 0} → (H → Type 0) → Type 0
+GroupsAreRight {H} IsSteady = (host : H) (schema script : List ℕ) (words : ClientWords) (ending : Ending) (old new : Linking) (before after : Writing)
     (s : Server) (pieces : List (List Input)) → words.kind ≡ kind.Report
-    → (ends : Ends schema script words ending old new before after) → IsHonest ends.tables s pieces (calls_of ends)
+    → (ends : Ends (IsSteady host) schema script words ending old new before after) → IsHonest ends.tables s pieces (calls_of ends)
     → AllSaid (report.IsRightText ends.tables (server_at_last s pieces).database words.id script) (all_done (calls_of ends))
 
 -- So is each step of a run of `warm`, where its image is true of the server before the first frame: its version is one of the server's, and

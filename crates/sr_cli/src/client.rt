@@ -38,9 +38,9 @@ fn client_files<H: Host>(alloc: Global, words: &ClientWords, host: &mut H) -> Re
     requires first { 1 ≤ words.now.id }
     requires last { words.now.id ≤ 64 }
     requires regions { words.now.limits.regions ≤ 1024 }
-    ensures whole { OnOk result (Dialled (H.held host.old) words.now Whole
+    ensures whole { OnOk result (Dialled (H.IsSteady host.old) (H.held host.old) words.now Whole
         (H.linking host.old) (H.linking host.new) (H.writing host.old) (H.writing host.new)) }
-    ensures stopped { IfErr result (StopsOver (H.held host.old) words.now (H.reading host.new).left
+    ensures stopped { IfErr result (StopsOver (H.IsSteady host.old) (H.held host.old) words.now (H.reading host.new).left
         (H.linking host.old) (H.linking host.new) (H.writing host.old) (H.writing host.new)) }
     ensures counts { CountsStop H H.reading H.writing H.linking host.old host.new result }
     ensures steady_reads { H.IsSteady host.old → IsErrOf result (Refused Read) → AreNotHeld (H.held host.old) words.now }

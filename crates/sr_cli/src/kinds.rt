@@ -52,7 +52,7 @@ fn run_new<H: Host, P: Plans>(
     requires asks { (ahead : Ahead) × P.follows schema.now plans.old ahead }
     requires few { P.depth plans.old < 2 ^ 40 }
     ensures ran { (ahead : Ahead) → P.follows schema.now plans.old ahead
-        → IfOk result (RunsAs H H.linking H.writing host.old host.new words.now keeps schema.now ahead) }
+        → IfOk result (RunsAs H H.linking H.writing H.IsSteady host.old host.new words.now keeps schema.now ahead) }
     ensures broken_off { (ahead : Ahead) → P.follows schema.now plans.old ahead
         → OnErr result (BreaksOff H H.linking H.writing host.old host.new words.now keeps schema.now ahead) }
     ensures steady_writes { H.IsSteady host.old → IfOk result (λ ended. ended ≢ Unwritten) }
@@ -76,8 +76,8 @@ fn run_lines<H: Host>(
     requires regions { words.now.limits.regions ≤ 1024 }
     requires schema { length files.now.schema < 2 ^ 32 }
     requires script { length files.now.script < 2 ^ 32 }
-    ensures ends { IfOk result (EndsOver H H.linking H.writing host.old host.new files.now words.now) }
-    ensures stopped { IfErr result (StopsBy H H.linking H.writing host.old host.new files.now words.now) }
+    ensures ends { IfOk result (EndsOver H H.linking H.writing H.IsSteady host.old host.new files.now words.now) }
+    ensures stopped { IfErr result (StopsBy H H.linking H.writing H.IsSteady host.old host.new files.now words.now) }
     ensures steady_writes { H.IsSteady host.old → IsWritten result }
     ensures stays { OnlyOutput H H.reading H.held H.complaints H.IsSteady host.old host.new }
 {
@@ -111,8 +111,8 @@ fn run_report<H: Host>(
     requires regions { words.now.limits.regions ≤ 1024 }
     requires schema { length files.now.schema < 2 ^ 32 }
     requires script { length files.now.script < 2 ^ 32 }
-    ensures ends { IfOk result (EndsOver H H.linking H.writing host.old host.new files.now words.now) }
-    ensures stopped { IfErr result (StopsBy H H.linking H.writing host.old host.new files.now words.now) }
+    ensures ends { IfOk result (EndsOver H H.linking H.writing H.IsSteady host.old host.new files.now words.now) }
+    ensures stopped { IfErr result (StopsBy H H.linking H.writing H.IsSteady host.old host.new files.now words.now) }
     ensures steady_writes { H.IsSteady host.old → IsWritten result }
     ensures stays { OnlyOutput H H.reading H.held H.complaints H.IsSteady host.old host.new }
 {
@@ -145,8 +145,8 @@ fn run_semi<H: Host>(
     requires regions { words.now.limits.regions ≤ 1024 }
     requires schema { length files.now.schema < 2 ^ 32 }
     requires script { length files.now.script < 2 ^ 32 }
-    ensures ends { IfOk result (EndsOver H H.linking H.writing host.old host.new files.now words.now) }
-    ensures stopped { IfErr result (StopsBy H H.linking H.writing host.old host.new files.now words.now) }
+    ensures ends { IfOk result (EndsOver H H.linking H.writing H.IsSteady host.old host.new files.now words.now) }
+    ensures stopped { IfErr result (StopsBy H H.linking H.writing H.IsSteady host.old host.new files.now words.now) }
     ensures steady_writes { H.IsSteady host.old → IsWritten result }
     ensures stays { OnlyOutput H H.reading H.held H.complaints H.IsSteady host.old host.new }
 {
@@ -178,8 +178,8 @@ fn run_kind<H: Host>(
     requires regions { words.now.limits.regions ≤ 1024 }
     requires schema { length files.now.schema < 2 ^ 32 }
     requires script { length files.now.script < 2 ^ 32 }
-    ensures ends { IfOk result (EndsOver H H.linking H.writing host.old host.new files.now words.now) }
-    ensures stopped { IfErr result (StopsBy H H.linking H.writing host.old host.new files.now words.now) }
+    ensures ends { IfOk result (EndsOver H H.linking H.writing H.IsSteady host.old host.new files.now words.now) }
+    ensures stopped { IfErr result (StopsBy H H.linking H.writing H.IsSteady host.old host.new files.now words.now) }
     ensures steady_writes { H.IsSteady host.old → IsWritten result }
     ensures stays { OnlyOutput H H.reading H.held H.complaints H.IsSteady host.old host.new }
 {
@@ -202,8 +202,8 @@ pub(crate) fn client_read<H: Host>(
     requires regions { words.now.limits.regions ≤ 1024 }
     requires schema { length files.now.schema < 2 ^ 32 }
     requires script { length files.now.script < 2 ^ 32 }
-    ensures whole { OnOk result (EndsOver H H.linking H.writing host.old host.new files.now words.now Whole) }
-    ensures stopped { IfErr result (StopsBy H H.linking H.writing host.old host.new files.now words.now) }
+    ensures whole { OnOk result (EndsOver H H.linking H.writing H.IsSteady host.old host.new files.now words.now Whole) }
+    ensures stopped { IfErr result (StopsBy H H.linking H.writing H.IsSteady host.old host.new files.now words.now) }
     ensures steady_writes { H.IsSteady host.old → ¬ IsErrOf result (Refused Write) }
     ensures stays { OnlyOutput H H.reading H.held H.complaints H.IsSteady host.old host.new }
 {

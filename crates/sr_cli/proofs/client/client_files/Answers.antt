@@ -2,8 +2,9 @@ use Rattle.std.proofs.Common.{Err, inl, ap, subst, ◌∙◌}
 use Rattle.std.proofs.lemmas.Result.{on_ok_weaker, IfErr-weaker}
 use Rattle.sr_cli.specs.Client.{Stops, StopsBy, StopsOver, files_of}
 use Rattle.sr_cli.specs.Leaves.{NotRead}
+use Rattle.sr_dial.specs.declared.ending.Ending.TheVariants.{Whole}
 use Rattle.sr_cli.specs.declared.stop.Stop.TheVariants.{Refused}
-use Rattle.sr_cli.proofs.ClientLemmas.{counts-stopped, over-files}
+use Rattle.sr_cli.proofs.ClientLemmas.{counts-stopped, ends_later, over-files}
 use Rattle.sr_cli.proofs.Endings.{stop-failed, stop-unwritten}
 use Rattle.sr_cli.proofs.LeavesLemmas.{counts-unread, err-of, unread-as}
 use Rattle.sr_cli.proofs.client.client_files.Goals as goal
@@ -15,7 +16,9 @@ returns-in-Ok-clause-whole g c =
       schema = c.in-Ok.files.schema;
       script = c.in-Ok.files.script;
       files = c.in-Ok.ensures.read;
-      ends = rw (c.read_files.ensures.stays.linking_stays, c.read_files.ensures.stays.writing_stays) at ends;
+      ends = ends_later (g.H.Outside.IsSteady c.args.host.now) (g.H.Outside.IsSteady c.read_files.new.host) c.in-Ok.files.schema c.in-Ok.files.script c.args.words.now Whole
+          (g.H.Outside.linking c.args.host.now) (g.H.Outside.linking c.client_read.new.host) (g.H.Outside.writing c.args.host.now) (g.H.Outside.writing c.client_read.new.host) c.read_files.ensures.stays.stays_steady
+          (rw (c.read_files.ensures.stays.linking_stays, c.read_files.ensures.stays.writing_stays) at ends);
     })
     c.client_read.ensures.whole
 
@@ -23,17 +26,17 @@ pub returns-in-Ok-clause-stopped : goal.returns-in-Ok-clause-stopped
 returns-in-Ok-clause-stopped g c =
     IfErr-weaker c.client_read.result _ _
     (λ why stops.
-    over-files (g.H.Outside.held c.args.host.now) c.args.words.now (g.H.Outside.reading c.client_read.new.host).left c.in-Ok.files.schema c.in-Ok.files.script
+    over-files (g.H.Outside.IsSteady c.args.host.now) (g.H.Outside.IsSteady c.read_files.new.host) c.read_files.ensures.stays.stays_steady (g.H.Outside.held c.args.host.now) c.args.words.now (g.H.Outside.reading c.client_read.new.host).left c.in-Ok.files.schema c.in-Ok.files.script
     (g.H.Outside.linking c.args.host.now) (g.H.Outside.linking c.client_read.new.host) (g.H.Outside.writing c.args.host.now) (g.H.Outside.writing c.client_read.new.host) why c.in-Ok.ensures.read
     (rw (c.read_files.ensures.stays.linking_stays, c.read_files.ensures.stays.writing_stays) at stops))
     c.client_read.ensures.stopped
 
 pub returns-in-Ok-clause-counts : goal.returns-in-Ok-clause-counts
 returns-in-Ok-clause-counts g c =
-    counts-stopped _ g.H.Outside.reading g.H.Outside.writing g.H.Outside.linking c.in-Ok.files.schema c.in-Ok.files.script c.args.words.now c.args.host.now c.read_files.new.host c.client_read.new.host
+    counts-stopped (g.H.Outside.IsSteady c.read_files.new.host) _ g.H.Outside.reading g.H.Outside.writing g.H.Outside.linking c.in-Ok.files.schema c.in-Ok.files.script c.args.words.now c.args.host.now c.read_files.new.host c.client_read.new.host
     c.in-Ok.ensures.ok_keeps_faults c.client_read.ensures.stays.reading_stays c.read_files.ensures.stays.writing_stays c.read_files.ensures.stays.linking_stays c.client_read.result
-    (IfErr-weaker c.client_read.result (StopsBy _ g.H.Outside.linking g.H.Outside.writing c.read_files.new.host c.client_read.new.host c.in-Ok.files c.args.words.now)
-    (Stops c.in-Ok.files.schema c.in-Ok.files.script c.args.words.now (g.H.Outside.linking c.read_files.new.host) (g.H.Outside.linking c.client_read.new.host) (g.H.Outside.writing c.read_files.new.host) (g.H.Outside.writing c.client_read.new.host))
+    (IfErr-weaker c.client_read.result (StopsBy _ g.H.Outside.linking g.H.Outside.writing g.H.Outside.IsSteady c.read_files.new.host c.client_read.new.host c.in-Ok.files c.args.words.now)
+    (Stops (g.H.Outside.IsSteady c.read_files.new.host) c.in-Ok.files.schema c.in-Ok.files.script c.args.words.now (g.H.Outside.linking c.read_files.new.host) (g.H.Outside.linking c.client_read.new.host) (g.H.Outside.writing c.read_files.new.host) (g.H.Outside.writing c.client_read.new.host))
     (λ why stops. stops) c.client_read.ensures.stopped)
 
 pub returns-in-Ok-clause-steady_reads : goal.returns-in-Ok-clause-steady_reads
@@ -52,7 +55,7 @@ returns-in-Ok-clause-stays g c = record {
 pub returns-in-Err-clause-stopped : goal.returns-in-Err-clause-stopped
 returns-in-Err-clause-stopped g c =
     rw c.unread.ensures
-    (unread-as (λ r. StopsOver (g.H.Outside.held c.args.host.now) c.args.words.now (g.H.Outside.reading c.read_files.new.host).left
+    (unread-as (λ r. StopsOver (g.H.Outside.IsSteady c.args.host.now) (g.H.Outside.held c.args.host.now) c.args.words.now (g.H.Outside.reading c.read_files.new.host).left
     (g.H.Outside.linking c.args.host.now) (g.H.Outside.linking c.read_files.new.host) (g.H.Outside.writing c.args.host.now) (g.H.Outside.writing c.read_files.new.host) (Refused r))
     c.in-Err.fault (λ is. tt) (λ is. inl (record { linking = c.read_files.ensures.stays.linking_stays; writing = c.read_files.ensures.stays.writing_stays }))
     (λ is. (subst (NotRead (g.H.Outside.held c.args.host.now) (files_of c.args.words.now) (g.H.Outside.reading c.args.host.now) (g.H.Outside.reading c.read_files.new.host)) is c.in-Err.ensures.not_read).0))

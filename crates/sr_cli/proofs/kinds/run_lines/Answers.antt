@@ -12,7 +12,7 @@ returns-in-Err-clause-stopped g c =
     let words = c.args.words.now in
     let is = ap (λ k. line_fault k words.id) c.requires.kind in
     rw c.stop_of.ensures
-    (stops_unset files.schema files.script words c.in-Err.no (g.H.Outside.linking c.args.host.now) (g.H.Outside.writing c.args.host.now)
+    (stops_unset (g.H.Outside.IsSteady c.args.host.now) files.schema files.script words c.in-Err.no (g.H.Outside.linking c.args.host.now) (g.H.Outside.writing c.args.host.now)
     (λ line place e. rw (is, sym c.as_slice.ensures, sym c.as_slice-2.ensures) (c.in-Err.ensures.line line place (ap Err e)))
     (λ line why e. rw (is, sym c.as_slice.ensures, sym c.as_slice-2.ensures) (c.in-Err.ensures.create line why (ap Err e))))
 

@@ -7,8 +7,8 @@ use Rattle.sr_plan.specs.Plans.{Next}
 use Rattle.sr_dial.specs.Calls.{Do}
 use Rattle.sr_dial.specs.Following.{Ahead}
 use Rattle.sr_calls.specs.ClientEnds.{End, Stands, room_of}
-use Rattle.sr_calls.specs.Runs.{RanFrom, RanNew, RanOff, new_end, new_past}
-use Rattle.sr_calls.proofs.RunLemmas.{broke_new, new_room, new_stands, ran_new}
+use Rattle.sr_calls.specs.Runs.{RanNewSteadily, RanOff, RanSteadilyFrom, new_end, new_past}
+use Rattle.sr_calls.proofs.RunLemmas.{broke_new, new_room, new_stands, ran_new_steadily}
 use Rattle.sr_cli.proofs.kinds.run_new.Goals as goal
 
 pub run_plan-requires-clause-schema : goal.run_plan-requires-clause-schema
@@ -41,11 +41,11 @@ returns-clause-ran g c = λ ahead follows.
     let stands = subst (λ (e : End). Stands e new_past) (sym is) (new_stands words.id schema words.limits c.args.keeps true c.requires.tables) in
     let there = subst (λ (s : List Table). g.P.Plans.follows s c.args.plans.now ahead) (sym c.as_slice.ensures) follows in
     let ran = c.run_plan.ensures.ran new_past ahead stands refl refl there in
-    IfOk-weaker c.run_plan.result (λ ended. RanFrom (new_end words.id schema words.limits c.args.keeps true) new_past words.address (Next 0 (Do Resumed) ahead) ended old new before after left)
-    (λ ended. RanNew words.id words.address schema words.limits c.args.keeps true (Next 0 (Do Resumed) ahead) ended old new before after)
-    (λ ended from. ran_new words.id words.address schema words.limits c.args.keeps true (Next 0 (Do Resumed) ahead) ended old new before after left c.requires.tables from)
-    (subst (λ (e : End). IfOk c.run_plan.result (λ ended. RanFrom e new_past words.address (Next 0 (Do Resumed) ahead) ended old new before after left)) is
-    (subst (λ (a : List ℕ). IfOk c.run_plan.result (λ ended. RanFrom c.in_ok-end.end new_past a (Next 0 (Do Resumed) ahead) ended old new before after left)) c.as_str-address.ensures ran))
+    IfOk-weaker c.run_plan.result (λ ended. RanSteadilyFrom (g.H.Outside.IsSteady c.args.host.now) (new_end words.id schema words.limits c.args.keeps true) new_past words.address (Next 0 (Do Resumed) ahead) ended old new before after left)
+    (λ ended. RanNewSteadily (g.H.Outside.IsSteady c.args.host.now) words.id words.address schema words.limits c.args.keeps true (Next 0 (Do Resumed) ahead) ended old new before after)
+    (λ ended from. ran_new_steadily (g.H.Outside.IsSteady c.args.host.now) words.id words.address schema words.limits c.args.keeps true (Next 0 (Do Resumed) ahead) ended old new before after left c.requires.tables from)
+    (subst (λ (e : End). IfOk c.run_plan.result (λ ended. RanSteadilyFrom (g.H.Outside.IsSteady c.args.host.now) e new_past words.address (Next 0 (Do Resumed) ahead) ended old new before after left)) is
+    (subst (λ (a : List ℕ). IfOk c.run_plan.result (λ ended. RanSteadilyFrom (g.H.Outside.IsSteady c.args.host.now) c.in_ok-end.end new_past a (Next 0 (Do Resumed) ahead) ended old new before after left)) c.as_str-address.ensures ran))
 
 pub returns-clause-broken_off : goal.returns-clause-broken_off
 returns-clause-broken_off g c = λ ahead follows.

@@ -2,4 +2,4 @@ use Rattle.sr_cli.proofs.LawLemmas.{joins-are-right}
 use Rattle.sr_cli.proofs.laws.joins_are_right.Goals as goal
 
 pub returns : goal.returns
-returns c = joins-are-right
+returns g c = joins-are-right g.H.Outside.IsSteady

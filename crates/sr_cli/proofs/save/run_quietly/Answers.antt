@@ -43,7 +43,7 @@ returns-in-Ok-clause-ran g c = λ ahead follows.
     let there = subst (λ (s : List Table). g.P.Plans.follows s c.args.plans.now ahead) (sym c.as_slice.ensures) follows in
     let from = subst (λ (e : End). RanFrom e new_past words.address (Next 0 (Do Resumed) ahead) ending old new before after left) is
     (subst (λ (a : List ℕ). RanFrom c.in_ok-end.end new_past a (Next 0 (Do Resumed) ahead) ending old new before after left) c.as_str-address.ensures
-    (c.in-Ok.ensures.ran new_past ahead stands refl refl there)) in
+    (c.in-Ok.ensures.ran new_past ahead stands refl refl there).to) in
     let known = ran_new words.id words.address schema words.limits false false (Next 0 (Do Resumed) ahead) ending old new before after left c.requires.tables from in
     record { ran = record { begins = known.begins; left = left; ran = from }; is = refl }
 

@@ -29,6 +29,7 @@ pub(crate) fn is_reserved(word: &str) -> bool
         || is_same(word, "INT")
         || is_same(word, "INTEGER")
         || is_same(word, "INTO")
+        || is_same(word, "IS")
         || is_same(word, "JOIN")
         || is_same(word, "KEY")
         || is_same(word, "LIKE")

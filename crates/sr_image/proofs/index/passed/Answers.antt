@@ -1,7 +1,7 @@
 use Rattle.std.proofs.Common.{◌≡◌, ℕ, true, sym, ap, ◌∙◌}
 use Rattle.sr_image.specs.declared.index.Level.{Level}
 use Rattle.sr_image.specs.Index.{are_under, found_at}
-use Rattle.sr_image.proofs.Covering.{passed-on, passed-end, all-at}
+use Rattle.sr_image.proofs.Covering.{passed-on, all-at}
 use Rattle.sr_image.proofs.index.passed.Goals as goal
 
 pub returns-then-level-order-clause-none : goal.returns-then-level-order-clause-none

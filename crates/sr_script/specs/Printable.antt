@@ -122,6 +122,23 @@ IsPrintable schema (line.CutAlready n x) = IsNumber n × IsNumber x
 IsPrintable schema (line.ResumeSent n k) = IsNumber n × IsNumber k
 IsPrintable schema (line.ResumeUp n) = IsNumber n
 
+-- The table of the line is one of the schema, its attributes are columns of this table, and its rects fit it; and the numbers of a row are
+-- such as an i64 holds.
+abbrev pub IsPlaced : List Table → TraceLine → Type 0
+IsPlaced schema (line.Row row) = IsRow row
+IsPlaced schema (line.Held n t attrs rects) = IsPlace schema t attrs × AreRects schema t rects
+IsPlaced schema (line.Drop n why t attrs stamp rects) = IsPlace schema t attrs × AreRects schema t rects
+IsPlaced schema (line.Part t attrs rects) = IsPlace schema t attrs × AreRects schema t rects
+IsPlaced schema (line.Need t attrs) = IsPlace schema t attrs
+IsPlaced schema (line.Probe t attrs stamp rects) = IsPlace schema t attrs × AreRects schema t rects
+IsPlaced schema (line.Rest t attrs rects) = IsPlace schema t attrs × AreRects schema t rects
+IsPlaced schema (line.Victim place t attrs stamp rows) = IsPlace schema t attrs
+IsPlaced schema other = Unit {0}
+
+-- the numbers of the line are such as a u64 holds: where it is placed, it can be printed
+abbrev pub HasNumbers : List Table → TraceLine → Type 0
+HasNumbers schema line = IsPlaced schema line → IsPrintable schema line
+
 -- the number of the event can be printed, and so can the line
 abbrev pub IsNumbered : List Table → ℕ × TraceLine → Type 0
 IsNumbered schema numbered = IsNumber numbered.0 × IsPrintable schema numbered.1

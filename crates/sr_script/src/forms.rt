@@ -1,5 +1,6 @@
 //! The forms of trace lines, without the number of their event.
 ghost use Rattle.std.specs.Prelude.{◌≡◌, ◌++◌, ◌∷◌, ℕ, List, [], OnOk, codes, decimal, string_bytes};
+ghost use Rattle.sr_script.specs.Printable.{IsFault};
 ghost use Rattle.sr_script.specs.TraceText.{ended, line_words, cause_text, fault_words, name_of, attrs_of, rects_of};
 ghost use Rattle.sr_script.specs.declared.line.TraceLine.TheVariants.{Answer, Row, Drop, Ask, Fail, Victim, ExecVersion, ServerTook, ClientWritten, ClientRefused, ClientWelcome};
 
@@ -53,7 +54,8 @@ pub fn push_number_end(
 
 /// An event of a client whose statement was refused.
 pub fn push_sql(text: &mut String, event: &str, client: u8, fault: Fault) -> Result<(), NoMemory>
-    ensures { OnOk result (string_bytes text.new ≡ string_bytes text.old ++ ended (event.now ∷ decimal client ∷ codes "sql" ∷ fault_words fault)) }
+    ensures words { OnOk result (string_bytes text.new ≡ string_bytes text.old ++ ended (event.now ∷ decimal client ∷ codes "sql" ∷ fault_words fault)) }
+    ensures at { OnOk result (IsFault fault) }
 {
     write!(text, "{event} {client} sql ")?;
     push_fault(text, fault)
@@ -61,7 +63,8 @@ pub fn push_sql(text: &mut String, event: &str, client: u8, fault: Fault) -> Res
 
 /// A statement that the server refused.
 pub fn push_exec_refused(text: &mut String, fault: Fault) -> Result<(), NoMemory>
-    ensures { OnOk result (string_bytes text.new ≡ string_bytes text.old ++ ended (codes "exec" ∷ codes "refused" ∷ fault_words fault)) }
+    ensures words { OnOk result (string_bytes text.new ≡ string_bytes text.old ++ ended (codes "exec" ∷ codes "refused" ∷ fault_words fault)) }
+    ensures at { OnOk result (IsFault fault) }
 {
     text.push_str("exec refused ")?;
     push_fault(text, fault)
@@ -76,7 +79,8 @@ pub fn push_exec_version(text: &mut String, version: u64) -> Result<(), NoMemory
 }
 
 fn push_fault(text: &mut String, fault: Fault) -> Result<(), NoMemory>
-    ensures { OnOk result (string_bytes text.new ≡ string_bytes text.old ++ ended (fault_words fault)) }
+    ensures words { OnOk result (string_bytes text.new ≡ string_bytes text.old ++ ended (fault_words fault)) }
+    ensures at { OnOk result (IsFault fault) }
 {
     let why = why_word(fault.why);
     let at = fault.at;
@@ -254,7 +258,8 @@ pub fn push_refused(
     request: u64,
     fault: Fault,
 ) -> Result<(), NoMemory>
-    ensures { OnOk result (string_bytes text.new ≡ string_bytes text.old ++ ended (line_words [] (ClientRefused client request fault))) }
+    ensures words { OnOk result (string_bytes text.new ≡ string_bytes text.old ++ ended (line_words [] (ClientRefused client request fault))) }
+    ensures at { OnOk result (IsFault fault) }
 {
     write!(text, "toclient {client} refused {request} ")?;
     push_fault(text, fault)

@@ -1,5 +1,7 @@
 //! The text of a trace.
 ghost use Rattle.std.specs.Prelude.{◌≡◌, ◌++◌, List, IfOk, OnOk, flat_map, string_bytes};
+ghost use Rattle.std.specs.List.{All};
+ghost use Rattle.sr_script.specs.Printable.{HasNumbers};
 ghost use Rattle.sr_script.specs.TraceText.{ended, line_words, line_text};
 
 use crate::forms::{
@@ -23,7 +25,8 @@ pub fn push_line(
     number: u64,
     line: &TraceLine,
 ) -> Result<(), NoMemory>
-    ensures { OnOk result (string_bytes text.new ≡ string_bytes text.old ++ line_text schema.now number line.now) }
+    ensures text { OnOk result (string_bytes text.new ≡ string_bytes text.old ++ line_text schema.now number line.now) }
+    ensures numbers { OnOk result (HasNumbers schema.now line.now) }
 {
     write!(text, "{number} ")?;
     push_words(text, schema, line)
@@ -50,7 +53,8 @@ pub fn lines_text(
     number: u64,
     lines: &[TraceLine],
 ) -> Result<String, NoMemory>
-    ensures { IfOk result (λ text. string_bytes text ≡ flat_map (line_text schema.now number) lines.now) }
+    ensures text { IfOk result (λ text. string_bytes text ≡ flat_map (line_text schema.now number) lines.now) }
+    ensures numbers { OnOk result (All (HasNumbers schema.now) lines.now) }
 {
     let mut text = String::new(alloc);
     for line in lines {
@@ -60,7 +64,8 @@ pub fn lines_text(
 }
 
 fn push_words(text: &mut String, schema: &[Table], line: &TraceLine) -> Result<(), NoMemory>
-    ensures { OnOk result (string_bytes text.new ≡ string_bytes text.old ++ ended (line_words schema.now line.now)) }
+    ensures words { OnOk result (string_bytes text.new ≡ string_bytes text.old ++ ended (line_words schema.now line.now)) }
+    ensures numbers { OnOk result (HasNumbers schema.now line.now) }
 {
     match *line {
         TraceLine::Answer {

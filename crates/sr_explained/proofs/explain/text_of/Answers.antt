@@ -30,4 +30,4 @@ returns c = λ s meaning r means.
     let tell = c.in_ok-lines.ensures meaning (means-there w s seat c.args.query.now meaning r f means) in
     let known : c.as_slice.result.now ≡ w.server.tables.schema = search rules in
     let listed : c.as_slice-2.result.now ≡ c.in_ok-lines.lines = search rules in
-    IfOk-weaker c.lines_text.result _ _ (λ text told. tells-text w s seat meaning c.as_slice.result.now c.in_ok-lines.lines c.as_slice-2.result.now _ r f tell known listed told) c.lines_text.ensures
+    IfOk-weaker c.lines_text.result _ _ (λ text told. tells-text w s seat meaning c.as_slice.result.now c.in_ok-lines.lines c.as_slice-2.result.now _ r f tell known listed told) c.lines_text.ensures.text

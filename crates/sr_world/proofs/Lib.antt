@@ -7,6 +7,12 @@ mod Named
 mod NewLemmas
 mod Numbers
 mod Over
+mod Placed
+mod PlacedEvents
+mod PlacedExplained
+mod PlacedRows
+mod PlacedRuns
+mod PlacedSteps
 mod Points
 pub mod ReplayLemmas
 mod Requests

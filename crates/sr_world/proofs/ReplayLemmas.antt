@@ -1,10 +1,11 @@
 -- From runs of some events to the trace of a script.
 use Rattle.std.proofs.Common.{◌≡◌, ℕ, Bool, true, List, [], ◌∷◌, ◌++◌, length, Option, Some, None, Ok, Err, refl, subst, sym, ◌∙◌, ap, append_assoc, append-nil, arith, inl, inr, suc, ◌+◌, ◌*◌, ◌<◌, ◌≤◌, ◌^◌}
-use Rattle.std.specs.Prelude.{◌⊎◌, IsTrue, IfOk, IsErrOf, Result, flat_map}
-use Rattle.std.specs.List.{list_all, AllZip}
+use Rattle.std.specs.Prelude.{◌⊎◌, IsTrue, IfOk, OnOk, IsErrOf, Result, flat_map}
+use Rattle.std.specs.List.{list_all, All, AllByRecursion, AllZip}
 use Rattle.std.proofs.lemmas.Bool.{and_parts}
 use Rattle.std.proofs.lemmas.Result.{IfOk-weaker}
 use Rattle.std.proofs.lemmas.List.{length-replicate}
+use Rattle.std.proofs.lemmas.List.Elements.{recursion_from_All}
 use Rattle.std.proofs.Math.Seq.{take-length}
 use Rattle.std.specs.Io.KnownBytes.{Appends}
 use Rattle.sr_cell.specs.declared.table.Table.{Table}
@@ -22,6 +23,7 @@ use Rattle.sr_reader.specs.declared.script.EventLine.{EventLine}
 use Rattle.sr_reader.specs.declared.script.Script.{Script}
 use Rattle.sr_reader.specs.Read.{Fits, IsRead, AreEvents, IsEvent, IsEventLine, event_fits}
 use Rattle.sr_script.specs.declared.line.TraceLine.{TraceLine}
+use Rattle.sr_script.specs.Printable.{HasNumbers, IsNumber}
 use Rattle.sr_script.specs.TraceText.{line_text, trace_text}
 use Rattle.sr_session.specs.Scenes.{Scene, new_pair}
 use Rattle.sr_server.specs.Servers.{IsClientNumber}
@@ -32,7 +34,9 @@ use Rattle.sr_world.specs.declared.world.World.{World}
 use Rattle.sr_world.specs.declared.world.Options.{Options}
 use Rattle.sr_world.specs.Worlds.{Goes, Represents, most_drawn}
 use Rattle.sr_world.specs.Replay.{start, outside, Trace, Wrote, WrotePart}
-use Rattle.sr_world.specs.Ran.{Ran, RanWhole, RanPart, Traced, TracedWhole, TracedPart}
+use Rattle.sr_world.specs.Ran.{NumbersFit, Ran, RanWhole, RanPart, Traced, TracedWhole, TracedPart}
+use Rattle.sr_query.specs.Bound.{is_table}
+use Rattle.sr_world.proofs.PlacedEvents.{events-placed, first-events, printable}
 use Rattle.sr_world.proofs.RunLemmas.{Ran-none, Ran-one, RanWhole-append, RanPart-behind}
 
 Appends-none : (known : Option (List ℕ)) → Appends known known []
@@ -67,19 +71,27 @@ RanPart-more eager schema a event b all old mid new first at last text p q writt
 
 -- ---- one line
 
+-- each line has the number of the event
+numbers-fit : (schema : List Table) (number : ℕ) → IsNumber number → (lines : List TraceLine) → AllByRecursion (HasNumbers schema) lines
+    → AllByRecursion (NumbersFit schema) (numbered number lines)
+numbers-fit schema number small [] all = tt
+numbers-fit schema number small (l ∷ lines) all = ((small, all.0), numbers-fit schema number small lines all.1)
+
 ran-text : {T E : Type 0} (eager : Bool) (bytes : T → List ℕ) (r : Result T E) (schema : List Table) (event : ℕ × ScriptEvent) (old new : World) (lines : List TraceLine)
-    → Goes (λ s. Steps eager s event.1) old new lines → IfOk r (λ text. bytes text ≡ trace_text schema (numbered event.0 lines))
+    → Goes (λ s. Steps eager s event.1) old new lines → IsNumber event.0 → OnOk r (All (HasNumbers schema) lines) → IfOk r (λ text. bytes text ≡ trace_text schema (numbered event.0 lines))
     → IfOk r (λ text. Ran eager schema (event ∷ []) old new (bytes text))
-ran-text {T} {E} eager bytes (Ok text) schema event old new lines does is = Ran-one eager schema event old new lines (bytes text) does is
-ran-text {T} {E} eager bytes (Err e) schema event old new lines does is = tt
+ran-text {T} {E} eager bytes (Ok text) schema event old new lines does small fit is =
+    Ran-one eager schema event old new lines (bytes text) does (numbers-fit schema event.0 small lines (recursion_from_All (HasNumbers schema) lines fit)) is
+ran-text {T} {E} eager bytes (Err e) schema event old new lines does small fit is = tt
 
 -- the text of a line's event
 pub ran-event : {T E : Type 0} (eager : Bool) (bytes : T → List ℕ) (r : Result T E) (schema tables : List Table) (line : EventLine) (event : ℕ × ScriptEvent) (old new : World) (lines : List TraceLine)
     → IsEventLine tables line event → ((meaning : ScriptEvent) → IsEvent tables line.event meaning → Goes (λ s. Steps eager s meaning) old new lines)
-    → IfOk r (λ text. bytes text ≡ flat_map (line_text schema line.number) lines) → IfOk r (λ text. Ran eager schema (event ∷ []) old new (bytes text))
-ran-event {T} {E} eager bytes r schema tables line event old new lines is does told =
+    → IsNumber line.number → OnOk r (All (HasNumbers schema) lines) → IfOk r (λ text. bytes text ≡ flat_map (line_text schema line.number) lines)
+    → IfOk r (λ text. Ran eager schema (event ∷ []) old new (bytes text))
+ran-event {T} {E} eager bytes r schema tables line event old new lines is does small fit told =
     subst (λ event. IfOk r (λ text. Ran eager schema (event ∷ []) old new (bytes text))) (sym is.2)
-    (ran-text eager bytes r schema (line.number, is.0) old new lines (does is.0 is.1)
+    (ran-text eager bytes r schema (line.number, is.0) old new lines (does is.0 is.1) small fit
     (IfOk-weaker r (λ text. bytes text ≡ flat_map (line_text schema line.number) lines) (λ text. bytes text ≡ trace_text schema (numbered line.number lines))
     (λ text same. same ∙ numbered-text schema line.number lines) told))
 
@@ -237,10 +249,10 @@ room-first drawn clients lines are client few = omega (arith, are, client.1, few
 -- ---- the trace of a script
 
 -- the events ran in part
-pub traced-part : (options : Options) (schema : List Table) (tables : Tables) (events : List (ℕ × ScriptEvent)) (world : World) (first last : Option (List ℕ))
-    → Represents world (start options schema tables) → world.eager ≡ options.eager → RanPart world.eager world.server.tables.schema events world first last
+pub traced-part : (options : Options) (schema : List Table) (tables : Tables) (lines : List EventLine) (events : List (ℕ × ScriptEvent)) (world : World) (first last : Option (List ℕ))
+    → list_all is_table schema ≡ true → AllZip (IsEventLine schema) lines events → Represents world (start options schema tables) → world.eager ≡ options.eager → RanPart world.eager world.server.tables.schema events world first last
     → TracedPart options schema tables events first last
-traced-part options schema tables events world first last rep same ran =
+traced-part options schema tables lines events world first last sound are rep same ran =
     let p : RanPart options.eager schema events world first last =
     subst (λ ts. RanPart options.eager ts events world first last) (tables-there options schema tables world rep)
     (subst (λ e. RanPart e world.server.tables.schema events world first last) same ran) in
@@ -251,15 +263,20 @@ traced-part options schema tables events world first last rep same ran =
       split = p.split;
       trace = p.trace;
       last = d.0;
-      traced = record { lines = p.ran.lines; run = d.1; text = p.ran.text };
+      traced = record {
+        lines = p.ran.lines;
+        run = d.1;
+        printable = printable options schema tables p.done p.ran.lines p.mid d.0 sound (first-events schema lines events p.done p.left p.split are) d.2 d.1 p.ran.numbers;
+        text = p.ran.text;
+      };
       written = p.written;
     }
 
 -- all of them ran
-pub traced-whole : (options : Options) (schema : List Table) (tables : Tables) (events : List (ℕ × ScriptEvent)) (world new : World) (first last : Option (List ℕ))
-    → Represents world (start options schema tables) → world.eager ≡ options.eager → RanWhole world.eager world.server.tables.schema events world new first last
+pub traced-whole : (options : Options) (schema : List Table) (tables : Tables) (lines : List EventLine) (events : List (ℕ × ScriptEvent)) (world new : World) (first last : Option (List ℕ))
+    → list_all is_table schema ≡ true → AllZip (IsEventLine schema) lines events → Represents world (start options schema tables) → world.eager ≡ options.eager → RanWhole world.eager world.server.tables.schema events world new first last
     → TracedWhole options schema tables events new first last
-traced-whole options schema tables events world new first last rep same ran =
+traced-whole options schema tables lines events world new first last sound are rep same ran =
     let p : RanWhole options.eager schema events world new first last =
     subst (λ ts. RanWhole options.eager ts events world new first last) (tables-there options schema tables world rep)
     (subst (λ e. RanWhole e world.server.tables.schema events world new first last) same ran) in
@@ -267,7 +284,12 @@ traced-whole options schema tables events world new first last rep same ran =
     record {
       trace = p.trace;
       last = d.0;
-      traced = record { lines = p.ran.lines; run = d.1; text = p.ran.text };
+      traced = record {
+        lines = p.ran.lines;
+        run = d.1;
+        printable = printable options schema tables events p.ran.lines new d.0 sound (events-placed schema lines events are) d.2 d.1 p.ran.numbers;
+        text = p.ran.text;
+      };
       stands = d.2;
       written = p.written;
     }
@@ -280,7 +302,7 @@ traced-none options schema tables events known = record {
   split = refl;
   trace = [];
   last = start options schema tables;
-  traced = record { lines = []; run = ends (start options schema tables); text = refl };
+  traced = record { lines = []; run = ends (start options schema tables); printable = tt; text = refl };
   written = WritesPrefix-whole known known [] (Appends-none known);
 }
 
@@ -309,6 +331,7 @@ Trace-of options bytes loads s tables read done left trace last inside split loa
       split = split;
       lines = same.lines;
       runs = same.run;
+      printable = same.printable;
       text = same.text;
     }
 

@@ -2,6 +2,7 @@
 use Rattle.std.proofs.Common.{◌≡◌, ℕ, ◌+◌, Bool, List, [], ◌∷◌, ◌++◌, length, take, Option, refl, subst, sym, ◌∙◌, ap, append_assoc, append-nil, arith, length-append}
 use Rattle.std.proofs.Math.Seq.{take-append-add}
 use Rattle.std.specs.Io.KnownBytes.{Appends}
+use Rattle.std.specs.List.{AllByRecursion}
 use Rattle.sr_cell.specs.declared.table.Table.{Table}
 use Rattle.sr_lines.specs.Events.{ScriptEvent}
 use Rattle.sr_script.specs.declared.line.TraceLine.{TraceLine}
@@ -12,7 +13,8 @@ use Rattle.sr_io.specs.Pieces.{WritesPrefix}
 use Rattle.sr_io.proofs.SoFar.{Appends-append}
 use Rattle.sr_world.specs.declared.world.World.{World}
 use Rattle.sr_world.specs.Worlds.{Goes}
-use Rattle.sr_world.specs.Ran.{Ran, RanWhole, RanPart}
+use Rattle.sr_world.specs.Ran.{NumbersFit, Ran, RanWhole, RanPart}
+use Rattle.sr_world.proofs.Placed.{all-append}
 
 pub trace_text-append : (schema : List Table) (a b : List (ℕ × TraceLine)) → trace_text schema (a ++ b) ≡ trace_text schema a ++ trace_text schema b
 trace_text-append schema [] b = refl
@@ -33,13 +35,15 @@ Runs-one eager s event lines new step =
     subst (λ ls. Runs eager s (event ∷ []) ls new) (append-nil (numbered event.0 lines)) (goes_on s event.0 event.1 lines new [] [] new step (ends new))
 
 pub Ran-none : (eager : Bool) (schema : List Table) (w : World) → Ran eager schema [] w w []
-Ran-none eager schema w = record { lines = []; run = λ s r. (s, ends s, r); text = refl }
+Ran-none eager schema w = record { lines = []; run = λ s r. (s, ends s, r); numbers = tt; text = refl }
 
 pub Ran-one : (eager : Bool) (schema : List Table) (event : ℕ × ScriptEvent) (old new : World) (lines : List TraceLine) (trace : List ℕ)
-    → Goes (λ s. Steps eager s event.1) old new lines → trace ≡ trace_text schema (numbered event.0 lines) → Ran eager schema (event ∷ []) old new trace
-Ran-one eager schema event old new lines trace does text = record {
+    → Goes (λ s. Steps eager s event.1) old new lines → AllByRecursion (NumbersFit schema) (numbered event.0 lines) → trace ≡ trace_text schema (numbered event.0 lines)
+    → Ran eager schema (event ∷ []) old new trace
+Ran-one eager schema event old new lines trace does fit text = record {
   lines = numbered event.0 lines;
   run = λ s r. let d = does s r in (d.0, Runs-one eager s event lines d.0 d.1, d.2);
+  numbers = fit;
   text = text;
 }
 
@@ -51,6 +55,7 @@ Ran-append {eager} {schema} {a} {b} {old} {mid} {new} {one} {two} p q = record {
       let d = p.run s r in
       let e = q.run d.0 d.2 in
       (e.0, Runs-append eager s a p.lines d.0 b q.lines e.0 d.1 e.1, e.2);
+  numbers = all-append (NumbersFit schema) p.lines q.lines p.numbers q.numbers;
   text = rw (p.text, q.text) (sym (trace_text-append schema p.lines q.lines));
 }
 

@@ -1,10 +1,12 @@
 -- What runs of some events do to a world and write.
 use Rattle.std.specs.Prelude.{ℕ, ◌≡◌, Bool, List, ◌++◌, Option}
 use Rattle.std.specs.Io.KnownBytes.{Appends}
+use Rattle.std.specs.List.{AllByRecursion}
 use Rattle.sr_cell.specs.declared.table.Table.{Table}
 use Rattle.sr_lines.specs.Events.{ScriptEvent}
 use Rattle.sr_model.specs.Statements.{Tables}
 use Rattle.sr_script.specs.declared.line.TraceLine.{TraceLine}
+use Rattle.sr_script.specs.Printable.{HasNumbers, IsNumber, IsNumbered}
 use Rattle.sr_script.specs.TraceText.{trace_text}
 use Rattle.sr_session.specs.Scenes.{Scene}
 use Rattle.sr_runs.specs.Runs.{Runs}
@@ -19,10 +21,15 @@ use Rattle.sr_world.specs.Replay.{start}
 abbrev pub DoesRun : Bool → List (ℕ × ScriptEvent) → World → World → List (ℕ × TraceLine) → Type 0
 DoesRun eager events old new lines = (s : Scene) → Represents old s → (next : Scene) × Runs eager s events lines next × Represents new next
 
+-- the number of the event and those of the line are such as a u64 holds
+abbrev pub NumbersFit : List Table → ℕ × TraceLine → Type 0
+NumbersFit schema numbered = IsNumber numbered.0 × HasNumbers schema numbered.1
+
 -- the events ran, and this is the text of their lines
 pub record Ran (eager : Bool) (schema : List Table) (events : List (ℕ × ScriptEvent)) (old new : World) (trace : List ℕ) : Type 0 where
   pub lines : List (ℕ × TraceLine)
   pub run : DoesRun eager events old new lines
+  pub numbers : AllByRecursion (NumbersFit schema) lines
   pub text : trace ≡ trace_text schema lines
 
 -- the text of all events was written
@@ -41,10 +48,11 @@ pub record RanPart (eager : Bool) (schema : List Table) (events : List (ℕ × S
   pub ran : Ran eager schema done old mid trace
   pub written : WritesPrefix before after trace
 
--- the events ran from the start, and this is the text of their lines
+-- the events ran from the start, their lines can be printed, and this is the text of them
 pub record Traced (options : Options) (schema : List Table) (tables : Tables) (events : List (ℕ × ScriptEvent)) (trace : List ℕ) (last : Scene) : Type 0 where
   pub lines : List (ℕ × TraceLine)
   pub run : Runs options.eager (start options schema tables) events lines last
+  pub printable : AllByRecursion (IsNumbered schema) lines
   pub text : trace ≡ trace_text schema lines
 
 -- the trace of all events was written

@@ -1,6 +1,7 @@
 -- What a replay of a script keeps and writes.
 use Rattle.std.specs.Prelude.{ℕ, ◌≡◌, List, [], ◌++◌, Option, None, Ok, Err}
 use Rattle.std.specs.Io.KnownBytes.{Appends}
+use Rattle.std.specs.List.{AllByRecursion}
 use Rattle.sr_cell.specs.declared.fault.Fault.{Fault}
 use Rattle.sr_cell.specs.declared.table.Table.{Table}
 use Rattle.sr_model.specs.Statements.{Tables}
@@ -12,6 +13,7 @@ use Rattle.sr_tables.specs.Stored.{no_rows}
 use Rattle.sr_load.specs.Filling.{filled}
 use Rattle.sr_load.specs.declared.fill.Load.{Load}
 use Rattle.sr_script.specs.declared.line.TraceLine.{TraceLine}
+use Rattle.sr_script.specs.Printable.{IsNumbered}
 use Rattle.sr_script.specs.TraceText.{trace_text}
 use Rattle.sr_session.specs.Scenes.{Scene, first_scene}
 use Rattle.sr_runs.specs.Runs.{Runs}
@@ -39,7 +41,7 @@ RefusesLoad clients script loads table fault =
 -- ---- traces
 
 -- A run of the script's events over tables with the rows of the files, each event with the number of its line, but for those left, and
--- the text of its lines. No line of the script is outside the grammar.
+-- the text of its lines, which can be printed so that the text tells them. No line of the script is outside the grammar.
 pub record Trace (options : Options) (script : List ℕ) (loads : List Load) (left : List (ℕ × ScriptEvent)) (trace : List ℕ) (last : Scene) : Type 0 where
   pub inside : outside options.clients script ≡ None
   pub all : List (ℕ × ScriptEvent)
@@ -51,6 +53,7 @@ pub record Trace (options : Options) (script : List ℕ) (loads : List Load) (le
   pub split : all ≡ done ++ left
   pub lines : List (ℕ × TraceLine)
   pub runs : Runs options.eager (start options end.tables tables) done lines last
+  pub printable : AllByRecursion (IsNumbered end.tables) lines
   pub text : trace ≡ trace_text end.tables lines
 
 -- the whole trace was written, and the world that is kept stands for the last scene

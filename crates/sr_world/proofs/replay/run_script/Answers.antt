@@ -18,13 +18,13 @@ run_events-requires-clause-events g c =
 pub returns-in-Ok-run_events-clause-whole : goal.returns-in-Ok-run_events-clause-whole
 returns-in-Ok-run_events-clause-whole g c = λ events are.
     let stands = c.in-Ok.ensures.stands in
-    traced-whole c.args.options _ c.args.tables.rows events _ _ _ _ stands c.in-Ok.ensures.eager
+    traced-whole c.args.options _ c.args.tables.rows c.args.lines events _ _ _ _ c.requires.fits.tables are stands c.in-Ok.ensures.eager
     (c.in-Ok-run_events.ensures.whole events (events-there c.args.options _ c.args.lines events c.args.tables.rows _ stands are))
 
 pub returns-in-Err-run_events-clause-part : goal.returns-in-Err-run_events-clause-part
 returns-in-Err-run_events-clause-part g c = λ events are.
     let stands = c.in-Ok.ensures.stands in
-    traced-part c.args.options _ c.args.tables.rows events _ _ _ stands c.in-Ok.ensures.eager
+    traced-part c.args.options _ c.args.tables.rows c.args.lines events _ _ _ c.requires.fits.tables are stands c.in-Ok.ensures.eager
     (c.in-Err-run_events.ensures.part events (events-there c.args.options _ c.args.lines events c.args.tables.rows _ stands are))
 
 pub returns-in-Err-run_events-clause-failed_is_counted : goal.returns-in-Err-run_events-clause-failed_is_counted

@@ -4,7 +4,7 @@ import socket
 import subprocess
 import tempfile
 
-from frames import ALL_COLUMNS, WIRE, Ask, Hello, Holding, Lapse, Part, Resume, Write, frame, spelled
+from frames import ALL_COLUMNS, WIRE, Ask, Hello, Holding, Lapse, Part, Resume, Welcome, Write, frame, spelled
 from model import SCHEMA, Model
 
 ROWS = [(1, 35, b'ann'), (2, 45, b'bob'), (3, 33, b"cy's"), (300, 30, b'\xc3\xa9')]
@@ -119,6 +119,20 @@ def received(link):
         return link.recv(65536)
     except ConnectionResetError:
         return b''  # it hung up with bytes unread
+
+
+def over_a_nullable_schema(program):
+    """A client of wire 1 knows no NULL: its greeting is refused, without a byte. One of wire 2 is welcome."""
+    with tempfile.TemporaryDirectory() as folder:
+        schema, address = pathlib.Path(folder) / 'schema', free_address()
+        schema.write_text('CREATE TABLE n (id INT PRIMARY KEY, a INT NULL)\n', encoding='utf-8')
+        with subprocess.Popen([program, 'serve', '--schema', schema, address, '2'], bufsize=0, stdout=subprocess.PIPE) as serving:
+            serving.stdout.readline()
+            got = [talk(address, [frame(HELLO._replace(wire=wire))]) for wire in (1, 2)]
+            output, _ = serving.communicate(timeout=SECONDS)
+    return [('wire 1 over a nullable schema', None if got[0] == b'' else 'got ' + got[0].hex()),
+            ('wire 2 over a nullable schema', None if got[1] == spelled([Welcome(0, 0, False)]) else 'got ' + got[1].hex()),
+            ('the lines of both', None if output == b'connection 1 bad 1\nconnection 2 end 1\n' else 'got %r' % output)]
 
 
 def run(program):

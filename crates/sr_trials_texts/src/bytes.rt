@@ -111,7 +111,7 @@ fn reads(kind: Kind, bytes: &[u8]) -> (bool, usize) {
 // Bytes, whether they begin with such a value, and how many are left.
 static VALUES: [(Kind, &[u8], bool, usize); 25] = [
     (Kind::Cell, b"", false, 0),
-    (Kind::Cell, b"\x02", false, 1),
+    (Kind::Cell, b"\x03", false, 1),
     (Kind::Cell, b"\x00\x00\x00", false, 2),
     (Kind::Cell, b"\x01\x79aaa", false, 4),
     (Kind::Cell, b"\x01\x02a", false, 1),
@@ -124,7 +124,7 @@ static VALUES: [(Kind, &[u8], bool, usize); 25] = [
     (Kind::Rows, b"\x00\x00", false, 2),
     (Kind::Rows, b"\x01\x01", false, 2),
     (Kind::Rows, b"\x00\x01\x01\x01\x00", true, 0),
-    (Kind::Span, b"\x04", false, 1),
+    (Kind::Span, b"\x05", false, 1),
     (
         Kind::Span,
         b"\x01\x00\x00\x00\x00\x00\x00\x00\x05\x00\x00\x00\x00\x00\x00\x00\x04",

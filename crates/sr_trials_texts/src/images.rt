@@ -114,7 +114,7 @@ static EDITS: [(usize, u8, ImageFault); 37] = [
     (84, 0x40, ImageFault::Field { place: 82 }),
     (86, 1, ImageFault::Field { place: 86 }),
     (86, 13, ImageFault::Field { place: 86 }),
-    (87, 4, ImageFault::Field { place: 87 }),
+    (87, 5, ImageFault::Field { place: 87 }),
     (89, 0x7f, ImageFault::Field { place: 97 }),
     (104, 29, ImageFault::Field { place: 97 }),
     (97, 0x7f, ImageFault::Field { place: 86 }),

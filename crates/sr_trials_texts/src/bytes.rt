@@ -140,7 +140,7 @@ static VALUES: [(Kind, &[u8], bool, usize); 25] = [
     (Kind::Span, b"\x02\x01b\x01b", false, 2),
     (Kind::Span, b"\x02\x01b\x02b", false, 1),
     (Kind::Span, b"\x02\x01b\x01c", true, 0),
-    (Kind::Span, b"\x03\x00", false, 1),
+    (Kind::Span, b"\x03\x00", true, 0),
     (Kind::Rects, b"\x00\x00\x00\x00", false, 4),
     (Kind::Rects, b"\x00\x00\x40\x01", false, 4),
     (Kind::Rects, b"\x00\x00\x00\x01\x00", false, 1),

@@ -123,7 +123,7 @@ static EDITS: [(usize, u8, ImageFault); 37] = [
     (108, 3, ImageFault::Field { place: 147 }),
     (108, 1, ImageFault::Field { place: 128 }),
     (109, 1, ImageFault::Field { place: 109 }),
-    (110, 2, ImageFault::Field { place: 110 }),
+    (110, 3, ImageFault::Field { place: 110 }),
     (127, 41, ImageFault::Field { place: 109 }),
     (127, 29, ImageFault::Field { place: 109 }),
     (137, 1, ImageFault::Field { place: 128 }),

@@ -1,17 +1,19 @@
 use Rattle.std.proofs.Common.{◌≡◌, sym, ◌∙◌, ap, subst}
 use Rattle.std.specs.Prelude.{None}
-use Rattle.sr_session.specs.Sessions.{Served, serve}
+use Rattle.sr_session.specs.Sessions.{serve}
+use Rattle.sr_server.specs.declared.outbox.Outbox.{Outbox}
 use Rattle.sr_server.specs.declared.server.Server.{Server}
+use Rattle.sr_server.specs.Outboxes.{made, served_by}
 use Rattle.sr_server.specs.Servers.{IsSessionIf, Knows, session_at, with_session}
-use Rattle.sr_server.proofs.Slots.{put-back, session-is}
-use Rattle.sr_server.proofs.server.Server.take_request.Goals as goal
+use Rattle.sr_server.proofs.Slots.{session-is}
+use Rattle.sr_server.proofs.server.Server.begin_request.Goals as goal
 
-pub returns-clause-session : goal.returns-clause-session
-returns-clause-session c db is =
+pub returns-clause-serves : goal.returns-clause-serves
+returns-clause-serves c db is =
     let old : Server = c.args.self.now in
     let session = c.close-session.ensures.session ∙ ap (λ (s : Server). session_at s.sessions c.args.client) c.index_asked.ensures in
     let closed : c.close-session.new.self ≡ record old { sessions = with_session old.sessions c.args.client None } =
     c.close-session.ensures.closed ∙ ap (λ (s : Server). record s { sessions = with_session s.sessions c.args.client None }) c.index_asked.ensures in
     let own = subst (IsSessionIf db) (sym session) (session-is db old.sessions c.args.client c.requires.client is.count is.sessions) in
-    put-back old c.close-session.new.self c.set.new.self c.args.client _ (serve db (session_at old.sessions c.args.client) c.args.message.now).session closed c.set.ensures
-    (ap (λ (s : Served). s.session) (c.served.view_is ∙ (c.in_ok-served.ensures db (subst (λ (s : Server). Knows s.tables s.log db) (sym closed) is.knows) own ∙ ap (λ s. serve db s c.args.message.now) session)))
+    ap (λ (o : Outbox). served_by o c.close-session.new.self) c.outbox_of.ensures
+    ∙ (c.in_ok-answer.ensures db (subst (λ (s : Server). Knows s.tables s.log db) (sym closed) is.knows) own ∙ ap (λ s. serve db s c.args.message.now) session)

@@ -69,6 +69,18 @@ later-resume db held wire number version v holdings keeps at later =
     let above : newest db < version = omega (arith, later, at, newest-is db held keeps) in
     rw (not-yet version (newest db) above) refl
 
+-- at a version that the log has dropped
+pub dropped-resume : (db : Database) (held : Held) (wire number version : ℕ) (holdings : List Holding) → Logs db held → version < held.floor
+    → served-of (opened db wire []) (Welcome number (newest db) false ∷ []) ≡ serve_resume db wire number version holdings
+dropped-resume db held wire number version holdings keeps below = by (nat_le version (newest db)) refl
+  where
+    dropped : nat_le (floor_of db) version ≡ false
+    dropped = not-yet (floor_of db) version (subst (λ f. version < f) keeps.2 below)
+
+    by : (b : Bool) → nat_le version (newest db) ≡ b → served-of (opened db wire []) (Welcome number (newest db) false ∷ []) ≡ serve_resume db wire number version holdings
+    by true is = rw (is, dropped) refl
+    by false is = rw is refl
+
 -- at a version from which the log reaches on
 pub kept-resume : (db : Database) (held : Held) (wire number version v : ℕ) (holdings : List Holding) (entries : List Entry) → Logs db held → v ≡ log.newest held → version ≤ v → (version < held.floor → ⊥)
     → entries ≡ entries_above version held

@@ -1,7 +1,7 @@
-use Rattle.std.proofs.Common.{◌∙◌, ap}
+use Rattle.std.proofs.Common.{◌∙◌, ap, refl}
 use Rattle.std.proofs.lemmas.Result.{IfOk-weaker}
 use Rattle.sr_server.specs.Servers.{gone_on}
-use Rattle.sr_server.proofs.Serving.{later-resume, kept-resume}
+use Rattle.sr_server.proofs.Serving.{later-resume, kept-resume, dropped-resume}
 use Rattle.sr_server.proofs.serve.serve_resume.Goals as goal
 
 pub returns-then-version : goal.returns-then-version
@@ -20,3 +20,9 @@ returns-in_ok-told-in-Some c db tables keeps =
     (λ below. let wrong = c.in-Some.ensures.dropped.1 below in absurd (cc)) c.in-Some.ensures.above))
     (c.welcome_back.ensures tables entries
     (c.in_ok-told-in-Some.ensures tables log c.in-Some.ensures.above (λ below. let wrong = c.in-Some.ensures.dropped.1 below in absurd (cc))))
+
+pub returns-in-None : goal.returns-in-None
+returns-in-None c db tables keeps =
+    IfOk-weaker c.welcome_anew-in-None.result _ _
+    (λ answer is. is ∙ dropped-resume db c.args.log.now c.args.wire c.args.number c.args.version c.args.holdings.now keeps (c.in-None.ensures.dropped.0 refl))
+    (c.welcome_anew-in-None.ensures db tables keeps)

@@ -60,3 +60,6 @@ returns-in-Ok-clause-bad c = λ why. ((λ wrong. absurd (cc)), (λ is. let no = 
 
 pub returns-in-Err-clause-bad : goal.returns-in-Err-clause-bad
 returns-in-Err-clause-bad c = λ why. ((λ wrong. absurd (cc)), (λ is. let no = (c.in_ok-outbox.ensures.bad why).1 is in absurd (cc)))
+
+pub returns-in_err-outbox-clause-bad : goal.returns-in_err-outbox-clause-bad
+returns-in_err-outbox-clause-bad c = λ why. ((λ refused. (c.in_err-outbox.ensures.bad why).0 (cc)), (λ is. let back = (c.in_err-outbox.ensures.bad why).1 is in cc))

@@ -1,6 +1,7 @@
 -- What a server makes of a message, by what it makes of its parts.
 use Rattle.std.proofs.Common.{◌≡◌, ℕ, ◌-◌, ◌<◌, ◌≤◌, ◌^◌, true, List, [], ◌∷◌, length, refl, sym, ◌∙◌, ap, subst, arith, inl, inr, Option, Some, None, Result, Ok, Err}
-use Rattle.std.specs.Prelude.{◌⊎◌, ◌+◌, IfOk, OnErr, nat_lt}
+use Rattle.std.specs.Prelude.{◌⊎◌, ◌+◌, ◌↔◌, IfOk, OnErr, nat_lt}
+use Rattle.std.specs.Result.{IsErrAnd}
 use Rattle.std.specs.List.{All}
 use Rattle.std.proofs.lemmas.Bool.Decides.{nat_tests}
 use Rattle.std.proofs.lemmas.List.{get_or-set_same, length-append, length-set}
@@ -37,6 +38,14 @@ three-ok (Err e) P Q R S more p q rest = tt
 pub on-err : {A E : Type 0} {P : Type 0} (r : Result A E) → P → OnErr r P
 on-err (Ok a) p = tt
 on-err (Err e) p = p
+
+-- an error that is handed on is refused as it was
+pub handed-on : {A B E : Type 0} (r : Result A E) (first : Result B E) (e why : E) (M : Type 0) → first ≡ Err e → IsErrAnd r (λ x. x ≡ e) → (first ≡ Err why) ↔ M → (r ≡ Err why) ↔ M
+handed-on {A} {B} {E} (Ok a) first e why M was handed both = absurd handed
+handed-on {A} {B} {E} (Err x) first e why M was handed both = (
+  (λ is. both.0 (was ∙ ap Err (let same : x ≡ why = cc in sym handed ∙ same))),
+  (λ m. let back = sym was ∙ both.1 m in let same : e ≡ why = cc in ap Err (handed ∙ same)),
+)
 
 -- ---- texts
 

@@ -1,7 +1,8 @@
-use Rattle.std.proofs.Common.{sym, subst}
+use Rattle.std.proofs.Common.{sym, subst, refl, Err}
+use Rattle.sr_cell.specs.declared.list.No.TheVariants.{Refused}
 use Rattle.std.specs.List.{All}
 use Rattle.sr_wire.specs.Limits.{IsSendable}
-use Rattle.sr_server.proofs.Taking.{begun-closed, finished-takes, given-up, gives-up-on, takes-on}
+use Rattle.sr_server.proofs.Taking.{begun-closed, finished-takes, given-up, gives-up-on, handed-on, takes-on}
 use Rattle.sr_server.proofs.server.Server.take.Goals as goal
 
 pub read_out-requires-clause-client : goal.read_out-requires-clause-client
@@ -62,4 +63,5 @@ pub returns-in-Err-clause-bad : goal.returns-in-Err-clause-bad
 returns-in-Err-clause-bad c = λ why. ((λ wrong. absurd (cc)), (λ is. let no = (c.in_ok-outbox.ensures.bad why).1 is in absurd (cc)))
 
 pub returns-in_err-outbox-clause-bad : goal.returns-in_err-outbox-clause-bad
-returns-in_err-outbox-clause-bad c = λ why. ((λ refused. (c.in_err-outbox.ensures.bad why).0 (cc)), (λ is. let back = (c.in_err-outbox.ensures.bad why).1 is in cc))
+returns-in_err-outbox-clause-bad c = λ why.
+    handed-on c.from_residual.result (Err c.in_err-outbox.field-0.0) c.in_err-outbox.field-0.0 (Refused why) _ refl c.from_residual.ensures.1 (c.in_err-outbox.ensures.bad why)

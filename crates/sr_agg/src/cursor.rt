@@ -10,9 +10,9 @@ ghost use Rattle.sr_agg.specs.Statement.{is_none, name_ahead, place_if_any};
 ghost use Rattle.sr_agg.specs.Views.{token_seen, in_front, left_seen, word_of, MayRead, Reads};
 
 use crate::stop::Stop;
-use crate::words;
 use sr_cell::list::NoMemory;
 use sr_cell::text::Text;
+use sr_grammar::words::{is_reserved, lowered};
 use sr_token::token::TokenKind;
 use sr_token::tokens::Tokens;
 use std::alloc::Global;
@@ -251,9 +251,9 @@ impl<'a> Cursor<'a> {
         let next = self.next;
         match next {
             Next::Token(token)
-                if token.kind == TokenKind::Word && !words::is_reserved(token.text) => {
+                if token.kind == TokenKind::Word && !is_reserved(token.text) => {
                 Ok(Some(Word {
-                    text: words::lowered(alloc, token.text)?,
+                    text: lowered(alloc, token.text)?,
                     place: token.place,
                 }))
             }

@@ -15,4 +15,3 @@ mod tally;
 #[cfg(test)]
 mod tests;
 mod total;
-mod words;

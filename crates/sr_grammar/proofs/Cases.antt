@@ -31,6 +31,15 @@ downs (x ∷ a) (y ∷ b) e =
     let t : upper a ≡ upper b = cc in
     rw (down x y h, downs a b t) refl
 
+-- the test of a word, by its letters as they are read
+pub is_same-upper : (r : Bool) (word other : List ℕ) → (IsTrue r ↔ (lower word ≡ lower other)) → r ≡ bytes_eq (upper word) (upper other)
+is_same-upper r word other iff = go r (bytes_eq (upper word) (upper other)) refl iff
+  where
+    go : (x y : Bool) → bytes_eq (upper word) (upper other) ≡ y → (IsTrue x ↔ (lower word ≡ lower other)) → x ≡ y
+    go true y was iff = sym ((bytes_eq-Decides (upper word) (upper other)).1 (ups word other (iff.0 refl))) ∙ was
+    go false true was iff = iff.1 (downs word other ((bytes_eq-Decides (upper word) (upper other)).0 was))
+    go false false was iff = refl
+
 -- the test of a reserved word
 pub is-key : (r : Bool) (text word : List ℕ) (from : ℕ) → IsTrue (is_reserved (upper word)) → (IsTrue r ↔ (lower text ≡ lower word)) → r ≡ is Key (upper word) (seen code.Word from text)
 is-key r text word from res iff = go r (is_reserved (upper text)) refl (bytes_eq (upper text) (upper word)) refl iff

@@ -1,4 +1,3 @@
-mod Cases
 mod Quotes
 mod Filtered
 mod Lists

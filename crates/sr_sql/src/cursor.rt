@@ -12,6 +12,7 @@ use crate::words;
 use sr_cell::cell::Cell;
 use sr_cell::text::Text;
 use sr_grammar::statement::{Literal, Op};
+use sr_grammar::words::{is_reserved, lowered};
 use sr_token::token::TokenKind;
 use sr_token::tokens::Tokens;
 use std::alloc::Global;
@@ -213,8 +214,8 @@ impl<'a> Cursor<'a> {
     {
         let next = self.next;
         match next {
-            Next::Item(item) if item.kind == TokenKind::Word && !words::is_reserved(item.text) => {
-                let text = words::lowered(alloc, item.text)?;
+            Next::Item(item) if item.kind == TokenKind::Word && !is_reserved(item.text) => {
+                let text = lowered(alloc, item.text)?;
                 self.advance();
                 Ok(Word {
                     text,

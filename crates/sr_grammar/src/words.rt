@@ -1,4 +1,4 @@
-//! Words without regard to case.
+//! Words without regard to case: which are reserved, and how a name is kept.
 ghost use Rattle.std.specs.Prelude.{◌≡◌, IfOk, bytes_eq};
 ghost use Rattle.sr_grammar.specs.Tokens.{upper, lower, is_reserved};
 
@@ -13,8 +13,8 @@ fn is_same(word: &str, other: &str) -> bool
     word.eq_ignore_ascii_case(other)
 }
 
-/// Whether a word is reserved.
-pub(crate) fn is_reserved(word: &str) -> bool
+/// Whether a word is reserved, so that no table and no column can be named by it.
+pub fn is_reserved(word: &str) -> bool
     ensures { result ≡ is_reserved (upper word.now) }
 {
     is_same(word, "AND")
@@ -48,7 +48,7 @@ pub(crate) fn is_reserved(word: &str) -> bool
 }
 
 /// A name, which is kept in lower case.
-pub(crate) fn lowered(alloc: Global, text: &str) -> Result<Text, NoMemory>
+pub fn lowered(alloc: Global, text: &str) -> Result<Text, NoMemory>
     ensures { IfOk result (λ name. name ≡ lower text.now) }
 {
     Ok(Text::from_string(text.to_ascii_lowercase(alloc)?))

@@ -1,6 +1,6 @@
 -- The halves of a region.
-use Rattle.std.proofs.Common.{◌≡◌, ℕ, ◌+◌, ◌≤◌, true, false, cond, List, [], ◌∷◌, ◌++◌, refl, sym, ap, ◌∙◌, arith}
-use Rattle.std.specs.Prelude.{Bool, not, ◌&&◌, nat_eq, if◌then◌else◌, filter, ℤ}
+use Rattle.std.proofs.Common.{◌≡◌, ℕ, ◌+◌, ◌≤◌, true, false, cond, List, [], ◌∷◌, ◌++◌, refl, sym, ap, ◌∙◌, subst, arith}
+use Rattle.std.specs.Prelude.{Bool, not, ◌&&◌, nat_eq, if◌then◌else◌, filter, None, ℤ}
 use Rattle.std.specs.List.{list_all, All}
 use Rattle.std.proofs.lemmas.Bool.Decides.{nat_tests}
 use Rattle.std.proofs.lemmas.List.Folds.{list_all-append}
@@ -221,3 +221,29 @@ outside-from t whole cut outside h first fit only minus cuts =
     (list_all-append (constrains_only whole.attrs 0) whole.rects cut ∙ grind (arith, own, only))
     (outside-once t.columns whole.rects cut outside h.area.once minus) cuts
     (λ p point is. ap not (is_in-point t.columns whole.attrs cut p fit only point) ∙ grind (arith, is))
+
+-- ---- where nothing is outside
+
+none-fails : (test : Row → Bool) (rows : List Row) → filter (λ row. not (test row)) rows ≡ [] → filter test rows ≡ rows
+none-fails test [] none = refl
+none-fails test (row ∷ rows) none = go (test row) none (none-fails test rows)
+  where
+    go : (b : Bool) → cond (not b) (row ∷ filter (λ row. not (test row)) rows) (filter (λ row. not (test row)) rows) ≡ []
+        → (filter (λ row. not (test row)) rows ≡ [] → filter test rows ≡ rows) → cond b (row ∷ filter test rows) (filter test rows) ≡ row ∷ rows
+    go true none ih = ap (λ all. row ∷ all) (ih none)
+    go false none ih = absurd (cc)
+
+pub none-outside : (t : Table) (whole : Region) (cut outside : List Rect) → IsRegion t whole → have_first t.columns ≡ true
+    → list_all (rect_fits t.columns) cut ≡ true → list_all (constrains_only whole.attrs 0) cut ≡ true
+    → IsMinus t.columns whole.rects cut outside → outside ≡ [] → IsOutside t whole cut None
+none-outside t whole cut outside h first fit only minus none =
+    outside-from t whole cut [] h first fit only (subst (IsMinus t.columns whole.rects cut) none minus) tt
+
+pub all-inside : (t : Table) (whole : Region) (cut outside inside : List Rect) → IsRegion t whole → have_first t.columns ≡ true
+    → list_all (rect_fits t.columns) cut ≡ true → list_all (constrains_only whole.attrs 0) cut ≡ true
+    → IsMinus t.columns whole.rects cut outside → IsMinus t.columns whole.rects outside inside → AreCutFrom t.columns (whole.rects ++ cut) inside
+    → outside ≡ [] → IsInside t whole cut (half_of whole inside whole.rows)
+all-inside t whole cut outside inside h first fit only minus more cuts none =
+    subst (λ rows. IsInside t whole cut (half_of whole inside rows))
+    (none-fails (is_in whole.attrs cut) whole.rows (none-outside t whole cut outside h first fit only minus none).1)
+    (inside-from t whole cut outside inside h first fit only minus more cuts)

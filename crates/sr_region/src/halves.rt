@@ -1,5 +1,5 @@
 //! A region cut into two by rects.
-ghost use Rattle.std.specs.Prelude.{◌≡◌, ℕ, ◌<◌, ◌≤◌, true, not, [], ◌++◌, length, filter, IfOk, IfErr, IsErrOf, IsTrue, vec_capacity};
+ghost use Rattle.std.specs.Prelude.{◌≡◌, ℕ, ◌<◌, ◌≤◌, true, not, [], ◌++◌, length, filter, None, IfOk, IfErr, IsErrOf, IsTrue, vec_capacity};
 ghost use Rattle.std.specs.List.{list_all};
 ghost use Rattle.std.specs.VecDeque.{deque_len};
 ghost use Rattle.sr_cell.specs.declared.list.No.TheVariants.{Refused};
@@ -142,6 +142,20 @@ fn half_of(whole: &Region, rects: Rects, rows: Rows) -> Option<Region>
     })
 }
 
+/// The halves where no point is outside: all rows move as they are.
+fn all_inside(alloc: Global, whole: Region, rects: Rects) -> Halves
+    ensures inside { result.inside ≡ half_of whole rects whole.rows }
+    ensures outside { result.outside ≡ None }
+    ensures few { (limit : ℕ) → length rects ≤ limit → HasFew limit result.inside }
+{
+    let mut whole = whole;
+    let rows = mem::replace(&mut whole.rows, Seq::new(alloc));
+    Halves {
+        inside: half_of(&whole, rects, rows),
+        outside: None,
+    }
+}
+
 /// The halves of those rects, with the rows inside and outside of the cut.
 fn halves_of(alloc: Global, whole: Region, cut: &Rects, rects: CutRects, rooms: CutRows) -> Halves
     requires inside { rooms.inside.items ≡ [] }
@@ -201,6 +215,9 @@ impl Region {
             Err(No::Refused(_)) => return Err(NotSplit::Over(self)),
             Err(No::NoMemory) => return Err(NotSplit::NoMemory(self)),
         };
+        if cut.outside.is_empty() {
+            return Ok(all_inside(alloc, self, cut.inside));
+        }
         match rooms(alloc, self.rows.len()) {
             Ok(rooms) => Ok(halves_of(alloc, self, rects, cut, rooms)),
             Err(_) => Err(NotSplit::NoMemory(self)),
@@ -233,12 +250,18 @@ impl Region {
                 outside: Some(self),
             });
         }
-        let rooms = rooms(alloc, self.rows.len())?;
         let mut whole = self;
         let own = mem::replace(&mut whole.rects, Rects::new(alloc));
-        match cut_rects(alloc, own, meeting, rects, table, limit) {
-            Ok(cut) => Ok(halves_of(alloc, whole, rects, cut, rooms)),
-            Err(no) => Err(no),
+        let cut = match cut_rects(alloc, own, meeting, rects, table, limit) {
+            Ok(cut) => cut,
+            Err(no) => return Err(no),
+        };
+        if cut.outside.is_empty() {
+            return Ok(all_inside(alloc, whole, cut.inside));
+        }
+        match rooms(alloc, whole.rows.len()) {
+            Ok(rooms) => Ok(halves_of(alloc, whole, rects, cut, rooms)),
+            Err(_) => Err(No::NoMemory),
         }
     }
 }

@@ -1,7 +1,7 @@
 use Rattle.std.proofs.Common.{◌≡◌, [], ◌++◌, sym, ◌∙◌, subst, arith}
 use Rattle.std.proofs.lemmas.Grind.{common_steps}
 use Rattle.sr_region.specs.Halves.{IsInside, IsOutside}
-use Rattle.sr_region.proofs.Sides.{inside-from, outside-from}
+use Rattle.sr_region.proofs.Sides.{inside-from, outside-from, all-inside, none-outside}
 use Rattle.sr_region.proofs.Near.{stays-inside, stays-outside}
 use Rattle.sr_union.specs.Pieces.{near, IsMinus}
 use Rattle.sr_union.specs.Grid.{AreCutFrom}
@@ -33,3 +33,20 @@ returns-then-len-limit-clause-outside c =
     let empty : c.in-Ok.meeting ≡ [] = grind (arith, common_steps) in
     let none : near c.args.rects.now c.args.self.rects ≡ [] = sym c.in-Ok.ensures ∙ empty in
     stays-outside c.args.table.now c.args.self c.args.rects.now c.requires.region c.requires.first c.requires.fit c.requires.only none
+
+pub returns-then-is_empty-2-clause-inside : goal.returns-then-is_empty-2-clause-inside
+returns-then-is_empty-2-clause-inside c =
+    let none : c.in-Ok-cut_rects.cut.outside ≡ [] = grind (arith, common_steps) in
+    subst (IsInside c.args.table.now c.args.self c.args.rects.now) (sym c.all_inside.ensures.inside)
+    (all-inside c.args.table.now c.args.self c.args.rects.now c.in-Ok-cut_rects.cut.outside c.in-Ok-cut_rects.cut.inside c.requires.region c.requires.first c.requires.fit c.requires.only
+    (subst (λ own. IsMinus c.args.table.now.columns own c.args.rects.now c.in-Ok-cut_rects.cut.outside) c.in-Ok-copy.ensures c.in-Ok-cut_rects.ensures.outside)
+    (subst (λ own. IsMinus c.args.table.now.columns own c.in-Ok-cut_rects.cut.outside c.in-Ok-cut_rects.cut.inside) c.in-Ok-copy.ensures c.in-Ok-cut_rects.ensures.inside)
+    (subst (λ own. AreCutFrom c.args.table.now.columns (own ++ c.args.rects.now) c.in-Ok-cut_rects.cut.inside) c.in-Ok-copy.ensures c.in-Ok-cut_rects.ensures.cuts_inside)
+    none)
+
+pub returns-then-is_empty-2-clause-outside : goal.returns-then-is_empty-2-clause-outside
+returns-then-is_empty-2-clause-outside c =
+    let none : c.in-Ok-cut_rects.cut.outside ≡ [] = grind (arith, common_steps) in
+    subst (IsOutside c.args.table.now c.args.self c.args.rects.now) (sym c.all_inside.ensures.outside)
+    (none-outside c.args.table.now c.args.self c.args.rects.now c.in-Ok-cut_rects.cut.outside c.requires.region c.requires.first c.requires.fit c.requires.only
+    (subst (λ own. IsMinus c.args.table.now.columns own c.args.rects.now c.in-Ok-cut_rects.cut.outside) c.in-Ok-copy.ensures c.in-Ok-cut_rects.ensures.outside) none)

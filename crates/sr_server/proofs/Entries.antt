@@ -27,7 +27,8 @@ use Rattle.sr_message.specs.declared.message.Message.TheVariants.{Notice, Lapse}
 use Rattle.sr_session.specs.Sessions.{Database, Session, all_changes, closing, closing_if, due, due_if, floor_of, is_lost, newest, notice, notices, pushed, subscribes_some, told_at}
 use Rattle.sr_log.proofs.Least.{floor-within}
 use Rattle.sr_session.proofs.SendLemmas.{changes-count, floor-below}
-use Rattle.sr_server.specs.Noticed.{noticed, last_changes}
+use Rattle.sr_outbox.specs.Noticed.{noticed}
+use Rattle.sr_server.specs.Noticed.{last_changes}
 use Rattle.sr_server.specs.Servers.{Logs}
 
 -- ---- entries above a version

@@ -1,6 +1,5 @@
 pub mod Entries
 pub mod Slots
-pub mod PieceLemmas
 pub mod Standing
 pub mod Fitting
 pub mod Served

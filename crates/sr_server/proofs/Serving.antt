@@ -13,8 +13,8 @@ use Rattle.sr_log.specs.Held as log
 use Rattle.sr_model.specs.Statements.{Tables}
 use Rattle.sr_session.specs.Sessions.{Database, Served, Session, due, floor_of, holding_of, newest, notices, opened, reply_messages, row_messages, serve_ask, serve_resume, tables_of}
 use Rattle.sr_tables.specs.Stored.{Stored}
-use Rattle.sr_server.specs.Noticed.{noticed}
-use Rattle.sr_server.specs.Servers.{Knows, Logs}
+use Rattle.sr_outbox.specs.Noticed.{noticed}
+use Rattle.sr_server.specs.Servers.{Knows, Logs, gone_on}
 use Rattle.sr_server.proofs.Entries.{entries-noticed, made-of, newest-is, not-below, session-of}
 
 abbrev pub served-of : Option Session → List Message → Served
@@ -69,6 +69,18 @@ later-resume db held wire number version v holdings keeps at later =
     let above : newest db < version = omega (arith, later, at, newest-is db held keeps) in
     rw (not-yet version (newest db) above) refl
 
+-- at a version that the log has dropped
+pub dropped-resume : (db : Database) (held : Held) (wire number version : ℕ) (holdings : List Holding) → Logs db held → version < held.floor
+    → served-of (opened db wire []) (Welcome number (newest db) false ∷ []) ≡ serve_resume db wire number version holdings
+dropped-resume db held wire number version holdings keeps below = by (nat_le version (newest db)) refl
+  where
+    dropped : nat_le (floor_of db) version ≡ false
+    dropped = not-yet (floor_of db) version (subst (λ f. version < f) keeps.2 below)
+
+    by : (b : Bool) → nat_le version (newest db) ≡ b → served-of (opened db wire []) (Welcome number (newest db) false ∷ []) ≡ serve_resume db wire number version holdings
+    by true is = rw (is, dropped) refl
+    by false is = rw is refl
+
 -- at a version from which the log reaches on
 pub kept-resume : (db : Database) (held : Held) (wire number version v : ℕ) (holdings : List Holding) (entries : List Entry) → Logs db held → v ≡ log.newest held → version ≤ v → (version < held.floor → ⊥)
     → entries ≡ entries_above version held
@@ -84,6 +96,14 @@ kept-resume db held wire number version v holdings entries keeps at within there
     ∙ (ap (λ ms. ms ++ Welcome number (log.newest held) true ∷ []) (entries-noticed db held holdings version keeps le up)
     ∙ ap (λ w. notices db holdings version (newest db - version) ++ Welcome number w true ∷ []) (newest-is db held keeps)))
     ∙ rw (le-leb version (newest db) up, le-leb (floor_of db) version floor) refl
+
+-- behind what its client is told
+pub back-served : (held : Held) (wire number v : ℕ) (subs : List Holding) (entries : List Entry) (told sent : List Message) → told ≡ noticed subs entries
+    → sent ≡ told ++ Welcome number v true ∷ [] → v ≡ log.newest held → served-of (Some (session-of wire subs v)) sent ≡ gone_on held wire number subs entries
+back-served held wire number v subs entries told sent is made at =
+    served-same (session-of wire subs v) (session-of wire subs (log.newest held)) sent (noticed subs entries ++ Welcome number (log.newest held) true ∷ [])
+    (ap (session-of wire subs) at)
+    (made ∙ (ap (λ ms. ms ++ Welcome number v true ∷ []) is ∙ ap (λ w. noticed subs entries ++ Welcome number w true ∷ []) at))
 
 -- ---- a write
 

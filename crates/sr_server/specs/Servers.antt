@@ -22,7 +22,7 @@ use Rattle.sr_session.specs.Sessions.{Database, Served, Session, all_changes, du
 use Rattle.sr_subs.specs.Subscription.{FitsSome}
 use Rattle.sr_tables.specs.Stored.{Stored, are_stored, done_by}
 use Rattle.sr_server.specs.declared.server.Server.{Server}
-use Rattle.sr_server.specs.Noticed.{noticed}
+use Rattle.sr_outbox.specs.Noticed.{noticed}
 
 -- ---- sessions
 

@@ -1,30 +1,33 @@
 //! What is due to a session: notices of what changed since the version that it has reached, or a Lapse in their place.
-ghost use Rattle.std.specs.Prelude.{◌≡◌, ◌<◌, ◌≤◌, [], ◌∷◌, ◌++◌, map, filter, IfOk, OnOk, if◌then◌else◌};
+ghost use Rattle.std.specs.Prelude.{◌≡◌, ◌<◌, ◌≤◌, [], ◌∷◌, IfOk, OnOk, if◌then◌else◌};
 ghost use Rattle.std.specs.List.{list_any, AllByRecursion};
 ghost use Rattle.sr_message.specs.declared.message.Message.TheVariants.{Notice as NoticeOf};
-ghost use Rattle.sr_message.specs.Tells.{tell_of};
 ghost use Rattle.sr_subs.specs.Subscription.{touches, FitsSome};
-ghost use Rattle.sr_session.specs.Sessions.{notice, due, newest, closing_if, is_lost, serve_push};
-ghost use Rattle.sr_server.specs.Noticed.{noticed, last_changes};
+ghost use Rattle.sr_session.specs.Sessions.{due, newest, closing_if, is_lost, serve_push};
+ghost use Rattle.sr_tables.specs.Stored.{Stored};
+ghost use Rattle.sr_log.specs.Held.{newest as newest_of};
+ghost use Rattle.sr_outbox.specs.Left.{message_of, messages};
+ghost use Rattle.sr_server.specs.Noticed.{last_changes};
 ghost use Rattle.sr_server.specs.Servers.{ForEach, caught_up};
 
 use crate::session::Session;
 use sr_cell::change::Change;
-use sr_cell::list::{Copied, NoMemory, Seq};
+use sr_cell::list::{NoMemory, Seq};
 use sr_log::entry::Entry;
 use sr_log::log::Log;
-use sr_message::message::{Message, Messages, Tell, Told};
+use sr_outbox::item::{Item, Items};
+use sr_outbox::told::notices_of;
 use sr_subs::subs::Subs;
 use std::alloc::Global;
 
 /// What is sent before anything else. The session is at the newest version then; after a Lapse it has subscribed nothing.
-pub(crate) fn due(alloc: Global, log: &Log, session: &mut Session) -> Result<Messages, NoMemory>
+pub(crate) fn due(alloc: Global, log: &Log, session: &mut Session) -> Result<Items, NoMemory>
     requires points { AllByRecursion FitsSome session.old.subscription }
-    ensures sent { ForEach log.now session.old (λ db. IfOk result (λ sent. sent ≡ (due db session.old).sent)) }
+    ensures sent { ForEach log.now session.old (λ db. (tables : Stored) → IfOk result (λ sent. messages tables log.now sent ≡ (due db session.old).sent)) }
     ensures session { ForEach log.now session.old (λ db. OnOk result (session.new ≡ caught_up db session.old)) }
 {
     let sent = match log.since(session.upto) {
-        Some(entries) => notices_of(alloc, entries, &session.subs)?,
+        Some(entries) => notices_of(alloc, session.upto, entries, &session.subs)?,
         None => lapse(alloc, log, session)?,
     };
     session.upto = log.version();
@@ -32,88 +35,48 @@ pub(crate) fn due(alloc: Global, log: &Log, session: &mut Session) -> Result<Mes
 }
 
 /// The log has dropped what is due: a Lapse, where something is subscribed.
-fn lapse(alloc: Global, log: &Log, session: &mut Session) -> Result<Messages, NoMemory>
+fn lapse(alloc: Global, log: &Log, session: &mut Session) -> Result<Items, NoMemory>
     requires points { AllByRecursion FitsSome session.old.subscription }
     requires dropped { session.old.upto < log.now.floor }
-    ensures sent { ForEach log.now session.old (λ db. IfOk result (λ sent. sent ≡ (due db session.old).sent)) }
+    ensures sent { ForEach log.now session.old (λ db. (tables : Stored) → IfOk result (λ sent. messages tables log.now sent ≡ (due db session.old).sent)) }
     ensures session { ForEach log.now session.old (λ db. OnOk result (session.new ≡ record session.old { subscription = (due db session.old).subscription })) }
 {
     let mut sent = Seq::new(alloc);
     if session.subs.is_empty() {
         return Ok(sent);
     }
-    sent.push(Message::Lapse {
+    sent.push(Item::Lapse {
         version: log.version(),
     })?;
     session.subs.clear();
     Ok(sent)
 }
 
-/// A notice of each entry of which something touches the subscription.
-pub(crate) fn notices_of(
-    alloc: Global,
-    entries: &[Entry],
-    subs: &Subs,
-) -> Result<Messages, NoMemory>
-    ensures { IfOk result (λ sent. sent ≡ noticed subs.now entries.now) }
-{
-    let mut sent = Seq::new(alloc);
-    for entry in entries {
-        let told = tells_of(alloc, subs, entry.changes.as_slice())?;
-        push_notice(&mut sent, entry.version, told)?;
-    }
-    Ok(sent)
-}
-
-/// Puts a notice behind the messages, where something is told.
-fn push_notice(sent: &mut Messages, version: u64, told: Told) -> Result<(), NoMemory>
-    ensures { OnOk result (sent.new ≡ sent.old ++ notice version told) }
-{
-    if told.is_empty() {
-        return Ok(());
-    }
-    sent.push(Message::Notice { version, told })
-}
-
-/// The changes that touch the subscription, as a client is told of them.
-fn tells_of(alloc: Global, subs: &Subs, changes: &[Change]) -> Result<Told, NoMemory>
-    ensures { IfOk result (λ told. told ≡ map tell_of (filter (touches subs.now) changes.now)) }
-{
-    let mut told = Seq::new(alloc);
-    for change in changes {
-        if subs.touches(change) {
-            told.push(tell_of(alloc, change)?)?;
-        }
-    }
-    Ok(told)
-}
-
-/// What is told of a change.
-fn tell_of(alloc: Global, change: &Change) -> Result<Tell, NoMemory>
-    ensures { IfOk result (λ tell. tell ≡ tell_of change.now) }
-{
-    Ok(Tell {
-        table: change.table,
-        key: change.key.copy(alloc)?,
-        after: change.after.copy(alloc)?,
-    })
-}
-
 /// What a push sends: what is due, and behind notices an empty one of the newest version, if nothing else was told of it.
-pub(crate) fn pushed(alloc: Global, log: &Log, session: &mut Session) -> Result<Messages, NoMemory>
+pub(crate) fn pushed(alloc: Global, log: &Log, session: &mut Session) -> Result<Items, NoMemory>
     requires points { AllByRecursion FitsSome session.old.subscription }
-    ensures sent { ForEach log.now session.old (λ db. IfOk result (λ sent. sent ≡ (serve_push db session.old).sent)) }
+    ensures sent { ForEach log.now session.old (λ db. (tables : Stored) →
+        IfOk result (λ sent. messages tables log.now sent ≡ (serve_push db session.old).sent)) }
     ensures session { ForEach log.now session.old (λ db. OnOk result (session.new ≡ caught_up db session.old)) }
 {
     let closes = is_closed_by_notice(log, session);
     let mut sent = due(alloc, log, session)?;
     if closes {
-        sent.push(Message::Notice {
-            version: log.version(),
-            told: Seq::new(alloc),
-        })?;
+        sent.push(empty_notice(alloc, log))?;
     }
     Ok(sent)
+}
+
+/// A notice of the newest version that tells nothing; takes no memory.
+fn empty_notice(alloc: Global, log: &Log) -> Item
+    ensures { (tables : Stored) → message_of tables log.now result ≡ NoticeOf (newest_of log.now) [] }
+{
+    let version = log.version();
+    Item::Notice {
+        version,
+        above: version,
+        places: Seq::new(alloc),
+    }
 }
 
 /// Whether a push ends with an empty notice.

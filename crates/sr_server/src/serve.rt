@@ -1,23 +1,28 @@
 //! What requests make of a session.
-ghost use Rattle.std.specs.Prelude.{◌≡◌, ◌≤◌, true, false, [], ◌++◌, map, length, Some, None, IfOk, OnOk, IfSome, if◌then◌else◌};
+ghost use Rattle.std.specs.Prelude.{◌≡◌, ◌≤◌, true, false, List, [], ◌++◌, map, length, Some, None, IfOk, OnOk, IfSome, if◌then◌else◌};
 ghost use Rattle.std.specs.List.{AllByRecursion};
 ghost use Rattle.sr_subs.specs.Subscription.{FitsSome};
 ghost use Rattle.sr_session.specs.Sessions.{Database, due, entry_columns, holding_of, serve, serve_ask, serve_resume, serve_write};
 ghost use Rattle.sr_session.specs.Refusals.{has_few_parts, is_open};
+ghost use Rattle.sr_log.specs.declared.entry.Entry.{Entry};
+ghost use Rattle.sr_tables.specs.Stored.{Stored};
+ghost use Rattle.sr_outbox.specs.Left.{messages};
+ghost use Rattle.sr_outbox.specs.Noticed.{noticed};
+ghost use Rattle.sr_server.specs.Outboxes.{made};
 ghost use Rattle.sr_server.specs.Servers.{ForEach, ForEachOf, IsSessionIf, Knows, Logs, before_rows, begun, caught_up, gone_on, is_served};
 
-use crate::due::{due, notices_of};
-use crate::reply::reply;
+use crate::due::due;
 use crate::session::Session;
 use sr_cell::attrs::Attrs;
 use sr_cell::list::{NoMemory, Seq};
-use sr_log::entry::Entry;
 use sr_log::log::Log;
-use sr_message::message::{AskPart, AskParts, Holding, Holdings, Message, Messages};
+use sr_message::message::{AskPart, AskParts, Holding, Holdings, Message};
+use sr_outbox::asked::push_rows;
+use sr_outbox::item::{Item, Items};
+use sr_outbox::told::notices_of;
 use sr_subs::subs::Subs;
 use sr_tables::tables::Tables;
 use std::alloc::Global;
-use std::marker::Model;
 
 /// The wire over which an entry stands for all columns.
 const WHOLE_WIRE: u8 = 1;
@@ -25,19 +30,11 @@ const WHOLE_WIRE: u8 = 1;
 /// All columns that a table may have.
 const ALL_COLUMNS: u16 = 4_095;
 
-/// A session as a request leaves it, and what is sent.
+/// A session as a request leaves it, and what is sent, each message by what it is made from.
 #[derive(Drop)]
-pub(crate) struct Served {
+pub(crate) struct Answer {
     pub(crate) session: Option<Session>,
-    pub(crate) sent: Messages,
-}
-
-impl Model for Served {
-    ghost use Rattle.sr_session.specs.Sessions.{Served as TheServed};
-
-    ghost Value = { TheServed };
-
-    ghost view = { λ s. record { session = s.session; sent = s.sent } };
+    pub(crate) sent: Items,
 }
 
 /// Takes a request that is no write.
@@ -47,11 +44,12 @@ pub(crate) fn serve(
     log: &Log,
     session: Option<Session>,
     message: &Message,
-) -> Result<Served, NoMemory>
+) -> Result<Answer, NoMemory>
     requires served { is_served (is_open session) message.now ≡ true }
     requires few { has_few_parts message.now ≡ true }
     requires points { IfSome session (λ s. AllByRecursion FitsSome s.subscription) }
-    ensures { (db : Database) → Knows tables.now log.now db → IsSessionIf db session → IfOk result (λ served. served ≡ serve db session message.now) }
+    ensures { (db : Database) → Knows tables.now log.now db → IsSessionIf db session
+        → IfOk result (λ answer. made tables.now log.now answer ≡ serve db session message.now) }
 {
     match session {
         Some(session) => serve_open(alloc, tables, log, session, message),
@@ -66,11 +64,11 @@ fn serve_open(
     log: &Log,
     session: Session,
     message: &Message,
-) -> Result<Served, NoMemory>
+) -> Result<Answer, NoMemory>
     requires served { is_served true message.now ≡ true }
     requires few { has_few_parts message.now ≡ true }
     requires points { AllByRecursion FitsSome session.subscription }
-    ensures { ForEachOf tables.now log.now session (λ db. IfOk result (λ served. served ≡ serve db (Some session) message.now)) }
+    ensures { ForEachOf tables.now log.now session (λ db. IfOk result (λ answer. made tables.now log.now answer ≡ serve db (Some session) message.now)) }
 {
     match message {
         Message::Ask {
@@ -83,9 +81,9 @@ fn serve_open(
 }
 
 /// Takes the first message of a session.
-fn serve_closed(alloc: Global, log: &Log, message: &Message) -> Result<Served, NoMemory>
+fn serve_closed(alloc: Global, log: &Log, message: &Message) -> Result<Answer, NoMemory>
     requires served { is_served false message.now ≡ true }
-    ensures { (db : Database) → Logs db log.now → IfOk result (λ served. served ≡ serve db None message.now) }
+    ensures { (db : Database) (tables : Stored) → Logs db log.now → IfOk result (λ answer. made tables log.now answer ≡ serve db None message.now) }
 {
     match message {
         Message::Hello { wire, number, .. } => welcome_anew(alloc, log, *wire, *number),
@@ -110,17 +108,23 @@ fn serve_ask(
     number: u64,
     fresh: bool,
     parts: &AskParts,
-) -> Result<Served, NoMemory>
+) -> Result<Answer, NoMemory>
     requires few { length parts.now ≤ 4 }
     requires points { AllByRecursion FitsSome session.subscription }
-    ensures { ForEachOf tables.now log.now session (λ db. IfOk result (λ served. served ≡ serve_ask db session number fresh parts.now)) }
+    ensures { ForEachOf tables.now log.now session (λ db.
+        IfOk result (λ answer. made tables.now log.now answer ≡ serve_ask db session number fresh parts.now)) }
 {
     let mut session = session;
     let mut sent = before_reply(alloc, log, fresh, &mut session)?;
-    sent.append(reply(alloc, tables, log.version(), number, parts)?)?;
+    let asked = parts.as_slice();
+    push_rows(alloc, &mut sent, tables, number, asked)?;
+    sent.push(Item::Reply {
+        number,
+        version: log.version(),
+    })?;
     let wire = session.wire;
-    subscribe(alloc, wire, &mut session.subs, parts.as_slice())?;
-    Ok(Served {
+    subscribe(alloc, wire, &mut session.subs, asked)?;
+    Ok(Answer {
         session: Some(session),
         sent,
     })
@@ -132,9 +136,10 @@ fn before_reply(
     log: &Log,
     fresh: bool,
     session: &mut Session,
-) -> Result<Messages, NoMemory>
+) -> Result<Items, NoMemory>
     requires points { AllByRecursion FitsSome session.old.subscription }
-    ensures sent { ForEach log.now session.old (λ db. IfOk result (λ sent. sent ≡ (if fresh then [] else (due db session.old).sent))) }
+    ensures sent { ForEach log.now session.old (λ db. (tables : Stored) →
+        IfOk result (λ sent. messages tables log.now sent ≡ (if fresh then [] else (due db session.old).sent))) }
     ensures session { ForEach log.now session.old (λ db. OnOk result (session.new ≡ before_rows db fresh session.old)) }
 {
     if fresh {
@@ -168,17 +173,17 @@ fn subscribe(alloc: Global, wire: u8, subs: &mut Subs, parts: &[AskPart]) -> Res
 }
 
 /// A session begins that has subscribed nothing.
-fn welcome_anew(alloc: Global, log: &Log, wire: u8, number: u64) -> Result<Served, NoMemory>
-    ensures { (db : Database) → Logs db log.now → IfOk result (λ served. served ≡ begun db wire number) }
+fn welcome_anew(alloc: Global, log: &Log, wire: u8, number: u64) -> Result<Answer, NoMemory>
+    ensures { (db : Database) (tables : Stored) → Logs db log.now → IfOk result (λ answer. made tables log.now answer ≡ begun db wire number) }
 {
     let version = log.version();
     let mut sent = Seq::new(alloc);
-    sent.push(Message::Welcome {
+    sent.push(Item::Welcome {
         number,
         version,
         kept: false,
     })?;
-    Ok(Served {
+    Ok(Answer {
         session: Some(Session {
             wire,
             subs: Subs::new(alloc),
@@ -196,38 +201,42 @@ fn serve_resume(
     number: u64,
     version: u64,
     holdings: &Holdings,
-) -> Result<Served, NoMemory>
-    ensures { (db : Database) → Logs db log.now → IfOk result (λ served. served ≡ serve_resume db wire number version holdings.now) }
+) -> Result<Answer, NoMemory>
+    ensures { (db : Database) (tables : Stored) → Logs db log.now
+        → IfOk result (λ answer. made tables log.now answer ≡ serve_resume db wire number version holdings.now) }
 {
     if version > log.version() {
         return welcome_anew(alloc, log, wire, number);
     }
     match log.since(version) {
-        Some(entries) => welcome_back(alloc, log, wire, number, entries, holdings),
+        Some(entries) => {
+            let subs = subs_of(alloc, holdings.as_slice())?;
+            let told = notices_of(alloc, version, entries, &subs)?;
+            welcome_back(log, wire, number, subs, told)
+        }
         None => welcome_anew(alloc, log, wire, number),
     }
 }
 
-/// A session goes on with these points, and is told of what changed.
+/// A session goes on with these points, behind what its client is told.
 fn welcome_back(
-    alloc: Global,
     log: &Log,
     wire: u8,
     number: u64,
-    entries: &[Entry],
-    holdings: &Holdings,
-) -> Result<Served, NoMemory>
-    ensures { IfOk result (λ served. served ≡ gone_on log.now wire number holdings.now entries.now) }
+    subs: Subs,
+    told: Items,
+) -> Result<Answer, NoMemory>
+    ensures { (tables : Stored) (entries : List Entry) → messages tables log.now told ≡ noticed subs entries
+        → IfOk result (λ answer. made tables log.now answer ≡ gone_on log.now wire number subs entries) }
 {
     let version = log.version();
-    let subs = subs_of(alloc, holdings.as_slice())?;
-    let mut sent = notices_of(alloc, entries, &subs)?;
-    sent.push(Message::Welcome {
+    let mut sent = told;
+    sent.push(Item::Welcome {
         number,
         version,
         kept: true,
     })?;
-    Ok(Served {
+    Ok(Answer {
         session: Some(Session {
             wire,
             subs,
@@ -254,13 +263,14 @@ pub(crate) fn serve_written(
     log: &Log,
     session: &mut Session,
     number: u64,
-) -> Result<Messages, NoMemory>
+) -> Result<Items, NoMemory>
     requires points { AllByRecursion FitsSome session.old.subscription }
-    ensures sent { ForEach log.now session.old (λ db. IfOk result (λ sent. sent ≡ (serve_write db session.old number None).sent)) }
+    ensures sent { ForEach log.now session.old (λ db. (tables : Stored) →
+        IfOk result (λ sent. messages tables log.now sent ≡ (serve_write db session.old number None).sent)) }
     ensures session { ForEach log.now session.old (λ db. OnOk result (session.new ≡ caught_up db session.old)) }
 {
     let mut sent = due(alloc, log, session)?;
-    sent.push(Message::Written {
+    sent.push(Item::Written {
         number,
         version: log.version(),
     })?;

@@ -1,27 +1,25 @@
 //! The server.
-ghost use Rattle.std.specs.Prelude.{◌≡◌, ◌<◌, ◌≤◌, ◌+◌, true, [], ◌∷◌, ◌^◌, ◌↔◌, length, replicate, Ok, Err, Some, None, IsTrue, IsNone, IfSome, IfOk, OnOk, OnErr, IsErrOf};
-ghost use Rattle.std.specs.List.{list_all, All, AllByRecursion};
+ghost use Rattle.std.specs.Prelude.{◌≡◌, ◌<◌, ◌≤◌, ◌+◌, true, ◌^◌, ◌↔◌, length, replicate, Ok, Err, Some, None, IsTrue, IsNone, IfSome, IfOk, OnOk, OnErr, IsErrOf};
+ghost use Rattle.std.specs.List.{list_all, All};
 ghost use Rattle.sr_cell.specs.declared.fault.Fault.{Fault as TheFault};
 ghost use Rattle.sr_cell.specs.declared.list.No.TheVariants.{Refused, NoMemory as Wanting};
 ghost use Rattle.sr_grammar.specs.Seen.{statement_seen};
 ghost use Rattle.sr_cell.specs.Columns.{are_values};
 ghost use Rattle.sr_log.specs.Held.{newest as newest_of, IsPushed};
-ghost use Rattle.sr_message.specs.declared.message.Message.TheVariants.{Write as WriteOf, Refused as RefusedOf};
 ghost use Rattle.sr_model.specs.Statements.{executed};
 ghost use Rattle.sr_query.specs.Written.{write_of};
 ghost use Rattle.sr_query.specs.Writes.{suits};
-ghost use Rattle.sr_session.specs.Sessions.{Database, newest, with_version, serve_push, serve_write};
-ghost use Rattle.sr_subs.specs.Subscription.{FitsSome};
+ghost use Rattle.sr_session.specs.Sessions.{Database, newest, with_version, serve_push};
 ghost use Rattle.sr_tables.specs.Stored.{are_stored, done_by, is_short, statement_is_short};
 ghost use Rattle.sr_wire.specs.Limits.{IsSendable};
 ghost use Rattle.sr_wire.specs.declared.bad_frame.BadFrame.{BadFrame as TheBadFrame};
-ghost use Rattle.sr_session.specs.Refusals.{server_misfit, has_few_parts, is_open};
-ghost use Rattle.sr_server.specs.Servers.{IsCarriedOut, IsClientNumber, IsServer, ForEach, ForSession, StandsForSome, Executes, Takes, GivesUp, first_database, is_served, put, served_of, session_at};
+ghost use Rattle.sr_session.specs.Refusals.{server_misfit, has_few_parts};
+ghost use Rattle.sr_server.specs.Outboxes.{left_on};
+ghost use Rattle.sr_server.specs.Servers.{IsCarriedOut, IsClientNumber, IsServer, IsSessionIf, ForSession, StandsForSome, Executes, Takes, GivesUp, first_database, put, session_at};
 
 use crate::due::pushed;
 use crate::misfit::server_misfit;
-use crate::reply::index_asked;
-use crate::serve::{serve, serve_written};
+use crate::outbox::Outbox;
 use crate::session::Session;
 use sr_cell::change::Changes;
 use sr_cell::fault::Fault;
@@ -29,6 +27,7 @@ use sr_cell::list::{No, NoMemory, Seq};
 use sr_grammar::statement::Statement;
 use sr_log::log::Log;
 use sr_message::message::{Message, Messages};
+use sr_outbox::left::Left;
 use sr_query::write::Write;
 use sr_sql::read::read;
 use sr_tables::tables::Tables;
@@ -144,12 +143,10 @@ impl Server {
         ensures stands { StandsForSome self.new }
         ensures grows { newest_of self.new.log ≤ newest_of self.old.log + 1 }
     {
-        match self.misfit(client, message) {
-            Some(why) => Err(No::Refused(why)),
-            None => match self.serve(alloc, client, message) {
-                Ok(sent) => Ok(sent),
-                Err(_) => Err(No::NoMemory),
-            },
+        let outbox = self.begin(alloc, client, message)?;
+        match self.read_out(alloc, outbox) {
+            Ok(sent) => Ok(sent),
+            Err(_) => Err(No::NoMemory),
         }
     }
 
@@ -170,7 +167,9 @@ impl Server {
         match self.close(client) {
             Some(session) => {
                 let mut session = session;
-                let sent = pushed(alloc, &self.log, &mut session)?;
+                let items = pushed(alloc, &self.log, &mut session)?;
+                let mut left = Left::new(items);
+                let sent = left.all(alloc, &self.tables, &self.log)?;
                 self.set(client, Some(session));
                 Ok(Some(sent))
             }
@@ -189,7 +188,7 @@ impl Server {
     }
 
     /// What stands against a message of that client.
-    fn misfit(&self, client: u8, message: &Message) -> Option<BadFrame>
+    pub(crate) fn misfit(&self, client: u8, message: &Message) -> Option<BadFrame>
         requires client { IsClientNumber client }
         requires count { length self.now.sessions ≡ 64 }
         ensures { result ≡ server_misfit self.now.tables.schema (session_at self.now.sessions client) client message.now }
@@ -198,79 +197,8 @@ impl Server {
         server_misfit(self.tables.schema(), session, client, message)
     }
 
-    /// Takes a message against which nothing stands.
-    fn serve(&mut self, alloc: Global, client: u8, message: &Message) -> Result<Messages, NoMemory>
-        requires client { IsClientNumber client }
-        requires stands { StandsForSome self.old }
-        requires parts { has_few_parts message.now ≡ true }
-        requires number { newest_of self.old.log + 1 < 2 ^ 63 }
-        requires suits { server_misfit self.old.tables.schema (session_at self.old.sessions client) client message.now ≡ None }
-        ensures taken { (db : Database) → IsServer self.old db → IfOk result (λ sent. Takes db self.old client message.now sent self.new) }
-        ensures wanting { (db : Database) → IsServer self.old db → OnErr result (GivesUp db self.old client message.now self.new) }
-    {
-        match message {
-            Message::Write { number, sql } => self.take_write(alloc, client, *number, sql.as_str()),
-            _ => self.take_request(alloc, client, message),
-        }
-    }
-
-    /// Makes indexes by which the rows of an ask are found, where memory is to be had: no row changes.
-    fn index_asked(&mut self, alloc: Global, message: &Message)
-        ensures { self.new ≡ self.old }
-    {
-        index_asked(alloc, &mut self.tables, message);
-    }
-
-    /// Takes a request that is no write.
-    fn take_request(
-        &mut self,
-        alloc: Global,
-        client: u8,
-        message: &Message,
-    ) -> Result<Messages, NoMemory>
-        requires client { IsClientNumber client }
-        requires stands { StandsForSome self.old }
-        requires parts { has_few_parts message.now ≡ true }
-        requires served { is_served (is_open (session_at self.old.sessions client)) message.now ≡ true }
-        ensures sent { (db : Database) → IsServer self.old db → IfOk result (λ sent. sent ≡ (served_of db self.old client message.now).sent) }
-        ensures session { (db : Database) → IsServer self.old db
-            → OnOk result (self.new ≡ put self.old client (served_of db self.old client message.now).session) }
-        ensures closed { OnErr result (self.new ≡ put self.old client None) }
-    {
-        self.index_asked(alloc, message);
-        let session = self.close(client);
-        let served = serve(alloc, &self.tables, &self.log, session, message)?;
-        self.set(client, served.session);
-        Ok(served.sent)
-    }
-
-    /// Takes a write of an open session.
-    fn take_write(
-        &mut self,
-        alloc: Global,
-        client: u8,
-        number: u64,
-        sql: &str,
-    ) -> Result<Messages, NoMemory>
-        requires client { IsClientNumber client }
-        requires stands { StandsForSome self.old }
-        requires opened { is_open (session_at self.old.sessions client) ≡ true }
-        requires number { newest_of self.old.log + 1 < 2 ^ 63 }
-        ensures taken { (db : Database) → IsServer self.old db → IfOk result (λ sent. Takes db self.old client (WriteOf number sql.now) sent self.new) }
-        ensures wanting { (db : Database) → IsServer self.old db → OnErr result (GivesUp db self.old client (WriteOf number sql.now) self.new) }
-    {
-        let Some(session) = self.close(client) else {
-            unreachable!()
-        };
-        match self.write(alloc, sql) {
-            Ok(()) => self.written(alloc, client, session, number),
-            Err(No::Refused(fault)) => self.refused(alloc, client, session, number, fault),
-            Err(No::NoMemory) => Err(NoMemory),
-        }
-    }
-
     /// Carries out what a text says, which makes a version, or refuses it.
-    fn write(&mut self, alloc: Global, sql: &str) -> Result<(), No<Fault>>
+    pub(crate) fn write(&mut self, alloc: Global, sql: &str) -> Result<(), No<Fault>>
         requires number { newest_of self.old.log + 1 < 2 ^ 63 }
         ensures done { OnOk result (Executes self.old.tables.schema sql.now self.old.tables.rows (Ok self.new.tables.rows)) }
         ensures carried { OnOk result (IsCarriedOut self.old self.new) }
@@ -337,50 +265,24 @@ impl Server {
         self.log.version()
     }
 
-    /// Answers a write that was carried out, of a client whose session was taken out.
-    fn written(
-        &mut self,
-        alloc: Global,
-        client: u8,
-        session: Session,
-        number: u64,
-    ) -> Result<Messages, NoMemory>
-        requires client { IsClientNumber client }
-        requires count { length self.old.sessions ≡ 64 }
-        requires points { AllByRecursion FitsSome session.subscription }
-        ensures sent { ForEach self.old.log session (λ db. IfOk result (λ sent. sent ≡ (serve_write db session number None).sent)) }
-        ensures session { ForEach self.old.log session (λ db. OnOk result (self.new ≡ put self.old client (serve_write db session number None).session)) }
-        ensures closed { OnErr result (self.new ≡ self.old) }
+    /// Reads an Outbox to its end and finishes it. In want of memory nothing changes.
+    fn read_out(&mut self, alloc: Global, outbox: Outbox) -> Result<Messages, NoMemory>
+        requires client { IsClientNumber outbox.client }
+        requires stands { StandsForSome self.old }
+        requires closed { session_at self.old.sessions outbox.client ≡ None }
+        requires fits { (db : Database) → IsServer self.old db → IsSessionIf db outbox.session }
+        ensures sent { IfOk result (λ sent. sent ≡ left_on outbox self.old) }
+        ensures put { OnOk result (self.new ≡ put self.old outbox.client outbox.session) }
+        ensures unchanged { OnErr result (self.new ≡ self.old) }
     {
-        let mut session = session;
-        let sent = serve_written(alloc, &self.log, &mut session, number)?;
-        self.set(client, Some(session));
-        Ok(sent)
-    }
-
-    /// Answers a write that was refused, of a client whose session was taken out.
-    fn refused(
-        &mut self,
-        alloc: Global,
-        client: u8,
-        session: Session,
-        number: u64,
-        fault: Fault,
-    ) -> Result<Messages, NoMemory>
-        requires client { IsClientNumber client }
-        requires count { length self.old.sessions ≡ 64 }
-        ensures sent { IfOk result (λ sent. sent ≡ RefusedOf number fault ∷ []) }
-        ensures session { OnOk result (self.new ≡ put self.old client (Some session)) }
-        ensures closed { OnErr result (self.new ≡ self.old) }
-    {
-        let mut sent = Seq::new(alloc);
-        sent.push(Message::Refused { number, fault })?;
-        self.set(client, Some(session));
+        let mut outbox = outbox;
+        let sent = outbox.all(alloc, self)?;
+        self.finish(outbox);
         Ok(sent)
     }
 
     /// Takes the client's session out.
-    fn close(&mut self, client: u8) -> Option<Session>
+    pub(crate) fn close(&mut self, client: u8) -> Option<Session>
         requires client { IsClientNumber client }
         requires count { length self.old.sessions ≡ 64 }
         ensures session { result ≡ session_at self.old.sessions client }
@@ -390,7 +292,7 @@ impl Server {
     }
 
     /// Puts a session of the client in the place of the one that it had.
-    fn set(&mut self, client: u8, session: Option<Session>)
+    pub(crate) fn set(&mut self, client: u8, session: Option<Session>)
         requires client { IsClientNumber client }
         requires count { length self.old.sessions ≡ 64 }
         ensures { self.new ≡ put self.old client session }

@@ -1,9 +1,10 @@
 -- What holds of the rows of each table holds of one of them, and after one of them has changed.
-use Rattle.std.proofs.Common.{◌≡◌, ℕ, ◌<◌, ◌&&◌, Bool, true, false, List, [], ◌∷◌, ◌++◌, ◌+◌, ◌≤◌, ◌∙◌, take, length, map, refl, sym, ap, subst, arith, zero, suc, IsTrue}
+use Rattle.std.proofs.Common.{◌≡◌, ℕ, ◌<◌, ◌&&◌, Bool, true, false, List, [], ◌∷◌, ◌++◌, ◌+◌, ◌≤◌, ◌∙◌, take, length, map, refl, sym, ap, subst, arith, zero, suc, IsTrue, Bor}
 use Rattle.std.proofs.lemmas.Bool.{and_parts, and_from}
 use Rattle.std.proofs.lemmas.Bool.Decides.{nat_tests}
 use Rattle.std.proofs.lemmas.List.{take_more, take_all, map-append}
-use Rattle.std.specs.Prelude.{nat_le, nat_lt, not, ◌==◌, slice_set, slice_index_or}
+use Rattle.std.specs.Prelude.{nat_le, nat_lt, not, ◌==◌, slice_set, slice_index_or, Option, Some, None, IfSome, IfNone}
+use Rattle.std.specs.Slice.{IsItemAt}
 use Rattle.std.specs.List.{list_all, AllZip}
 use Rattle.std.specs.Cmp.{first_so, second_so}
 use Rattle.sr_cell.specs.declared.table.Table.{Table}
@@ -43,6 +44,21 @@ pub rows-at : (all : List Keyed) (t : ℕ) (d : Keyed) → t < length all → ro
 rows-at [] t d known = absurd (omega (arith, known))
 rows-at (j ∷ all) zero d known = refl
 rows-at (j ∷ all) (suc t) d known = rows-at all t d (omega (arith, known))
+
+pub rows-none : (all : List Keyed) (t : ℕ) → length all ≤ t → rows_at (rows_in all) t ≡ []
+rows-none [] t past = refl
+rows-none (j ∷ all) zero past = absurd (omega (arith, past))
+rows-none (j ∷ all) (suc t) past = rows-none all t (omega (arith, past))
+
+-- what is read at this number, if there is so
+pub read-at : (schema : List Table) (all : List Keyed) (t : ℕ) (r : Option (Bor Keyed)) → AllZip IsKeyed schema all → IsItemAt all t r
+    → IfSome r (λ k. k.now.key ≡ (table_at schema t).key) × IfSome r (λ k. k.now.rows ≡ rows_at (rows_in all) t) × IfNone r (rows_at (rows_in all) t ≡ [])
+read-at schema all t None zip is = (tt, tt, rows-none all t is.3)
+read-at schema all t (Some k) zip is =
+    let inside : t < length all = is.3.0 in
+    let known : t < length schema = omega (arith, zip-length schema all zip, inside) in
+    let own = zip-at schema all t k.now zip known in
+    (ap (λ (j : Keyed). j.key) is.1 ∙ own.key, ap (λ (j : Keyed). j.rows) is.1 ∙ sym (rows-at all t k.now inside), tt)
 
 pub rows-set : (all : List Keyed) (t : ℕ) (k : Keyed) → map (λ (k : Keyed). k.rows) (slice_set all t k) ≡ slice_set (map (λ (k : Keyed). k.rows) all) t k.rows
 rows-set [] t k = refl

@@ -16,3 +16,5 @@ pub mod Placing
 pub mod Ends
 pub mod InTurn
 pub mod Outcomes
+pub mod Ascending
+pub mod ByKey

@@ -3,3 +3,4 @@ pub mod Inserts
 pub mod Added
 pub mod Steps
 pub mod Turns
+pub mod ByKey

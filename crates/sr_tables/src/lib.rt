@@ -1,6 +1,7 @@
 //! Tables with their rows by key: statements that change them, and loads.
 #![tactic(auto)]
 
+mod by_key;
 mod carry;
 mod changes;
 mod delete;

@@ -268,7 +268,7 @@ fn near_by_key<'a>(
 }
 
 /// Rows with all those in the rects, and few others.
-fn near_rows<'a>(
+pub(crate) fn near_rows<'a>(
     alloc: Global,
     rows: &'a KeyedRows,
     rects: &[Rect],

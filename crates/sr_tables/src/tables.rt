@@ -1,5 +1,5 @@
 //! Tables with their rows.
-ghost use Rattle.std.specs.Prelude.{◌≡◌, ℕ, ◌<◌, ◌≤◌, ◌&&◌, ◌==◌, nat_lt, ◌^◌, [], true, map, filter, length, Ok, Err, IsTrue, IfOk, OnOk, OnErr, IsErrOf};
+ghost use Rattle.std.specs.Prelude.{◌≡◌, ℕ, ◌<◌, ◌≤◌, ◌&&◌, ◌==◌, nat_lt, ◌^◌, [], true, map, filter, length, Ok, Err, IsTrue, IfSome, IfNone, IfOk, OnOk, OnErr, IsErrOf};
 ghost use Rattle.std.specs.List.{list_all, AllZip};
 ghost use Rattle.sr_cell.specs.declared.list.No.TheVariants.{Refused};
 ghost use Rattle.sr_cell.specs.declared.fault.Fault.{Fault as TheFault};
@@ -13,13 +13,15 @@ ghost use Rattle.sr_model.specs.Changes.{changes};
 ghost use Rattle.sr_query.specs.Bound.{is_table};
 ghost use Rattle.sr_query.specs.Written.{write_of};
 ghost use Rattle.sr_query.specs.Writes.{suits};
+ghost use Rattle.sr_tables.specs.ByKey.{keys_of, rows_with};
 ghost use Rattle.sr_tables.specs.Stored.{IsKeyed, rows_in, no_rows, are_stored, is_short, statement_is_short, with_loaded, done_by};
 
+use crate::by_key::{keys_in, rows_with};
 use crate::carry::{carry_out, load_into};
 use crate::select::{index, select};
 use sr_bind::write::bind_write;
 use sr_cell::attrs::Attrs;
-use sr_cell::cell::{Row, Rows};
+use sr_cell::cell::{Cell, Row, Rows};
 use sr_cell::change::Changes;
 use sr_cell::fault::Fault;
 use sr_cell::list::{No, NoMemory, Seq};
@@ -152,6 +154,43 @@ impl Tables {
             None => Ok(Seq::new(alloc)),
             Some(rows) => select(alloc, rows, attrs, rects),
         }
+    }
+
+    /// The keys of a table's rows in the rects, ascending.
+    pub fn keys_in(&self, alloc: Global, table: u8, rects: &Rects) -> Result<Seq<Cell>, NoMemory>
+        ensures { IfOk result (λ keys.
+            keys ≡ keys_of (table_at self.now.schema table).key (filter (in_any rects.now) (rows_at self.now.rows table))) }
+    {
+        match self.rows_of(table) {
+            None => Ok(Seq::new(alloc)),
+            Some(rows) => keys_in(alloc, rows, rects),
+        }
+    }
+
+    /// The rows of a table with these keys, key by key, with these columns. A key that no row has gives none.
+    pub fn rows_with(
+        &self,
+        alloc: Global,
+        table: u8,
+        attrs: Attrs,
+        keys: &[Cell],
+    ) -> Result<Rows, NoMemory>
+        ensures { IfOk result (λ rows.
+            rows ≡ map (project attrs) (rows_with (table_at self.now.schema table).key keys.now (rows_at self.now.rows table))) }
+    {
+        match self.rows_of(table) {
+            None => Ok(Seq::new(alloc)),
+            Some(rows) => rows_with(alloc, rows, attrs, keys),
+        }
+    }
+
+    /// The rows of a table, if there is one of that number.
+    fn rows_of(&self, table: u8) -> Option<&KeyedRows>
+        ensures key { IfSome result (λ rows. rows.now.key ≡ (table_at self.now.schema table).key) }
+        ensures rows { IfSome result (λ rows. rows.now.rows ≡ rows_at self.now.rows table) }
+        ensures none { IfNone result (rows_at self.now.rows table ≡ []) }
+    {
+        self.rows.get(table as usize)
     }
 }
 

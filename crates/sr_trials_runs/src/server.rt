@@ -1,6 +1,7 @@
 //! Servers of a few sessions, over one table of numbers `k`, the key, and `a`.
-ghost use Rattle.std.specs.Prelude.{◌≡◌, ◌<◌, ◌≤◌, ◌+◌, true, false, IsTrue, IfOk, OnOk};
+ghost use Rattle.std.specs.Prelude.{◌≡◌, ◌<◌, ◌≤◌, ◌+◌, true, false, IsTrue, IfOk, OnOk, length};
 ghost use Rattle.std.specs.List.{list_all};
+ghost use Rattle.sr_cell.specs.Columns.{table_at};
 ghost use Rattle.sr_cell.specs.Names.{is_bad_domain};
 ghost use Rattle.sr_query.specs.Bound.{is_table};
 ghost use Rattle.sr_log.specs.Held.{newest as newest_of};
@@ -10,11 +11,13 @@ ghost use Rattle.sr_server.specs.Servers.{StandsForSome};
 use crate::common::{list_of, rects_of};
 use sr_box::span::Span;
 use sr_cell::attrs::Attrs;
+use sr_cell::cell::{Cell, Row};
 use sr_cell::list::{No, NoMemory};
 use sr_cell::schema::Schema;
 use sr_cell::table::{Column, Kind, Table};
 use sr_cell::text::Text;
 use sr_message::message::{AskPart, Holding, Message, Messages};
+use sr_server::outbox::Outbox;
 use sr_server::server::Server;
 use sr_tables::tables::Tables;
 use sr_union::rects::Rects;
@@ -488,4 +491,106 @@ fn each_step_is_answered_by_the_rules(rt: HostRuntime) {
     assert!(rt; done(alloc, &DROPPED) == Ok(10));
     assert!(rt; done(alloc, &RESUMED) == Ok(7));
     assert!(rt; done(alloc, &REFUSED) == Ok(19));
+}
+
+// Whether a row may be loaded into table 0.
+fn fits(tables: &Tables, row: &Row) -> bool
+    ensures known { IsTrue result → 0 < length tables.now.schema }
+    ensures width { IsTrue result → length row.now ≡ length (table_at tables.now.schema 0).columns }
+{
+    match tables.schema().get(0) {
+        Some(table) => table.columns.len() == row.len(),
+        None => false,
+    }
+}
+
+// Loads a row, or answers that it is refused.
+fn loads(alloc: Global, tables: &mut Tables, row: Row) -> Result<bool, NoMemory> {
+    if !fits(tables, &row) {
+        return Ok(false);
+    }
+    match tables.load(alloc, 0, row) {
+        Ok(()) => Ok(true),
+        Err(No::Refused(_)) => Ok(false),
+        Err(No::NoMemory) => Err(NoMemory),
+    }
+}
+
+// The table with 600 rows, in each of which `a` is 30.
+fn filled(alloc: Global) -> Result<Tables, NoMemory> {
+    let mut tables = Tables::empty(alloc, schema(alloc)?)?;
+    for key in 0..600 {
+        let row = list_of(alloc, [Cell::Num(key), Cell::Num(30)])?;
+        if !loads(alloc, &mut tables, row)? {
+            return Ok(tables);
+        }
+    }
+    Ok(tables)
+}
+
+// Whether the next message of an Outbox is this one.
+fn gives(
+    alloc: Global,
+    server: &Server,
+    outbox: &mut Outbox,
+    wanted: Seen,
+) -> Result<bool, NoMemory> {
+    match outbox.next(alloc, server)? {
+        Some(message) => Ok(seen(&message) == wanted),
+        None => Ok(false),
+    }
+}
+
+// Whether an Outbox gives these messages, and then none.
+fn gives_all(
+    alloc: Global,
+    server: &Server,
+    outbox: &mut Outbox,
+    wanted: &[Seen],
+) -> Result<bool, NoMemory> {
+    for seen in wanted {
+        if !gives(alloc, server, outbox, *seen)? {
+            return Ok(false);
+        }
+    }
+    Ok(outbox.next(alloc, server)?.is_none())
+}
+
+// Whether client 1 is answered so that asks for the whole table.
+fn answers_whole(alloc: Global, server: &mut Server, wanted: &[Seen]) -> Result<bool, NoMemory>
+    requires stands { StandsForSome server.old }
+    requires number { newest_of server.old.log ≡ 0 }
+{
+    let hello = message(alloc, Sent::Hello(1))?;
+    if !takes_one(alloc, server, 1, hello, Wanted::One((0x11, 0, 0)))? {
+        return Ok(false);
+    }
+    let whole = ask(
+        alloc,
+        true,
+        0,
+        3,
+        rects_of(alloc, [Span::Full, Span::Full])?,
+    )?;
+    match server.begin(alloc, 1, &whole) {
+        Ok(outbox) => {
+            let mut outbox = outbox;
+            gives_all(alloc, server, &mut outbox, wanted)
+        }
+        Err(_) => Ok(false),
+    }
+}
+
+// The same, of a server whose table has 600 rows.
+fn is_made_so(alloc: Global, wanted: &[Seen]) -> Result<bool, NoMemory> {
+    let mut server = Server::new(alloc, filled(alloc)?, 1)?;
+    answers_whole(alloc, &mut server, wanted)
+}
+
+static WHOLE: [Seen; 4] = [(0x13, 0, 256), (0x13, 0, 256), (0x13, 0, 88), (0x14, 0, 0)];
+
+#[test]
+fn a_reply_is_made_message_by_message(rt: HostRuntime) {
+    let alloc = rt.alloc();
+    assert!(rt; is_made_so(alloc, &WHOLE) == Ok(true));
 }

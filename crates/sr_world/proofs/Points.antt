@@ -14,6 +14,7 @@ use Rattle.sr_model.specs.Queries.{rows_at}
 use Rattle.sr_model.specs.SortedRows.{ascend}
 use Rattle.sr_model.specs.Statements.{Tables}
 use Rattle.sr_region.specs.Applied.{AreTables}
+use Rattle.sr_tables.proofs.Ascending.{stored-ascending}
 use Rattle.sr_tables.specs.Stored.{are_rows, are_stored}
 
 rows-points : (columns : List Column) (rows : List Row) → list_all (fits_columns columns) rows ≡ true → list_all are_values rows ≡ true → list_all (is_point columns) rows ≡ true
@@ -34,15 +35,6 @@ stored-points (u ∷ schema) (rows ∷ tables) stored values zero =
     rows-points u.columns rows (second_so (ascend u.key rows) (list_all (fits_columns u.columns) rows) own) (first_so (list_all are_values rows) (list_all (list_all are_values) tables) values)
 stored-points (u ∷ schema) (rows ∷ tables) stored values (suc t) =
     stored-points schema tables (second_so (are_rows u rows) (are_stored schema tables) stored) (second_so (list_all are_values rows) (list_all (list_all are_values) tables) values) t
-
-stored-ascending : (schema : List Table) (tables : Tables) → are_stored schema tables ≡ true → (t : ℕ) → ascend (table_at schema t).key (rows_at tables t) ≡ true
-stored-ascending [] [] stored t = refl
-stored-ascending [] (rows ∷ tables) stored t = absurd (cc)
-stored-ascending (u ∷ schema) [] stored t = absurd (cc)
-stored-ascending (u ∷ schema) (rows ∷ tables) stored zero =
-    first_so (ascend u.key rows) (list_all (fits_columns u.columns) rows)
-    (first_so (ascend u.key rows && list_all (fits_columns u.columns) rows) (nat_le (length rows) 65536) (first_so (are_rows u rows) (are_stored schema tables) stored))
-stored-ascending (u ∷ schema) (rows ∷ tables) stored (suc t) = stored-ascending schema tables (second_so (are_rows u rows) (are_stored schema tables) stored) t
 
 -- they are tables
 pub stored-tables : (schema : List Table) (tables : Tables) → are_stored schema tables ≡ true → list_all (list_all are_values) tables ≡ true → AreTables schema tables

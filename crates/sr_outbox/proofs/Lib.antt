@@ -1,0 +1,4 @@
+pub mod Pieces
+pub mod Notices
+pub mod Found
+pub mod Messages

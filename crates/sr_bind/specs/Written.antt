@@ -32,7 +32,8 @@ columns_of places = map (λ p. p.column) places
 -- the place of one SET behind those of these columns
 abbrev pub next_place : Table → List ℕ → Set → Result model.Place Fault
 next_place t named s =
-    set_column t named s.name.place (column_named 0 t.columns s.name.column) >>= λ c. typed (column_at t c).kind s.value >>= λ v. Ok (record { column = c; value = v })
+    set_column t named s.name.place (column_named 0 t.columns s.name.column) >>= λ c. typed (column_at t c).kind s.value >>= λ v. Ok
+    (record { column = c; value = v })
 
 -- what each kind of statement writes to its table
 

@@ -31,7 +31,8 @@ use std::alloc::Global;
 /// What the statement asks of the tables of the schema, or its first fault.
 pub fn bind_query(alloc: Global, schema: &Schema, statement: &Statement) -> Result<Query, No<Fault>>
     requires tables { IsTrue (list_all is_table schema.now) }
-    ensures bound { IfOk result (λ q. (meaning : TheQuery) × (bound_query schema.now (statement_seen statement.now) ≡ Ok meaning) × IsQuery schema.now q meaning) }
+    ensures bound { IfOk result (λ q. (meaning : TheQuery) × (bound_query schema.now (statement_seen statement.now) ≡ Ok meaning)
+        × IsQuery schema.now q meaning) }
     ensures refused { (fault : TheFault) → IsErrOf result (Refused fault) → bound_query schema.now (statement_seen statement.now) ≡ Err fault }
 {
     match statement {

@@ -54,7 +54,8 @@ pub fn named_columns(
 ) -> Result<Outputs, NoMemory>
     requires known { IsTrue (are_known schema.now tables.now) }
     requires joined { IsTrue (list_all (is_joined (length tables.now)) (map (join_of schema.now tables.now) joins.now)) }
-    ensures { IfOk result (λ named. map output_of named ≡ named_columns (map output_of outputs.now) (map (join_of schema.now tables.now) joins.now) (map meant conjuncts.now)) }
+    ensures { IfOk result (λ named. map output_of named
+        ≡ named_columns (map output_of outputs.now) (map (join_of schema.now tables.now) joins.now) (map meant conjuncts.now)) }
 {
     let mut named = Seq::new(alloc);
     named.extend(outputs)?;

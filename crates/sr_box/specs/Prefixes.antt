@@ -28,4 +28,5 @@ PrefixesAreSpans = (prefix s : List ℕ) → IsTrue (are_bytes prefix) → IsTru
 
 -- that span fits each column of texts, unless the prefix is empty
 abbrev pub PrefixesFit : Type 0
-PrefixesFit = (column : Column) (b : ℕ) (prefix : List ℕ) → column.kind ≡ Texts → IsTrue (are_bytes (b ∷ prefix)) → IsTrue (span_fits column (Strs (b ∷ prefix) (next_prefix (b ∷ prefix))))
+PrefixesFit = (column : Column) (b : ℕ) (prefix : List ℕ) → column.kind ≡ Texts → IsTrue (are_bytes (b ∷ prefix))
+    → IsTrue (span_fits column (Strs (b ∷ prefix) (next_prefix (b ∷ prefix))))

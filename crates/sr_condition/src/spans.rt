@@ -204,7 +204,8 @@ fn compared(
 ) -> Result<Spans, NoMemory>
     requires good { is_bad_domain column.now ≡ false }
     requires suits { cell_suits column.now.kind value.now ≡ true }
-    ensures { IfOk result (AreSpans column.now (says_test plain (compared op value.now)) (test_width plain (compared op value.now)) (places_of (compared op value.now))) }
+    ensures { IfOk result (AreSpans column.now (says_test plain (compared op value.now)) (test_width plain (compared op value.now))
+        (places_of (compared op value.now))) }
 {
     let op = said(plain, op);
     let bounds = ranges::compared(alloc, column, op, value)?;
@@ -333,7 +334,8 @@ pub(crate) fn test_spans(
 ) -> Result<Spans, NoMemory>
     requires good { is_bad_domain column.now ≡ false }
     requires suits { test_suits column.now.kind (test_meant test.now) ≡ true }
-    ensures { IfOk result (AreSpans column.now (says_test plain (test_meant test.now)) (test_width plain (test_meant test.now)) (places_of (test_meant test.now))) }
+    ensures { IfOk result (AreSpans column.now (says_test plain (test_meant test.now)) (test_width plain (test_meant test.now))
+        (places_of (test_meant test.now))) }
 {
     match test {
         Test::Compared(op, value) => compared(alloc, column, plain, *op, value),

@@ -49,10 +49,13 @@ pub fn explain<K: Sink>(
     requires script { length script.now < 2 ^ 32 }
     requires loads { IsTrue (list_all (λ load. nat_lt (length load.bytes) (2 ^ 32)) loads.now) }
     ensures whole { OnOk result (WroteBehind (K.writing sink.old).written (K.writing sink.new).written options script.now loads.now sql.now) }
-    ensures part_after_fault { IsErrOf result (Refused WriteFault) → WrotePart (K.writing sink.old).written (K.writing sink.new).written options script.now loads.now sql.now }
-    ensures part_in_want { IsErrOf result Wanting → (K.writing sink.new ≡ K.writing sink.old) ⊎ WrotePart (K.writing sink.old).written (K.writing sink.new).written options script.now loads.now sql.now }
+    ensures part_after_fault { IsErrOf result (Refused WriteFault)
+        → WrotePart (K.writing sink.old).written (K.writing sink.new).written options script.now loads.now sql.now }
+    ensures part_in_want { IsErrOf result Wanting
+        → (K.writing sink.new ≡ K.writing sink.old) ⊎ WrotePart (K.writing sink.old).written (K.writing sink.new).written options script.now loads.now sql.now }
     ensures refused { (fault : TheRunFault) → IsErrOf result (Refused fault) → IsRefusedFor options script.now loads.now sql.now fault }
-    ensures line_first { (at : TheLinePlace) → outside options.clients script.now ≡ Some at → IsErrOf result (Refused (Line at.line at.place)) ⊎ IsErrOf result Wanting }
+    ensures line_first { (at : TheLinePlace) → outside options.clients script.now ≡ Some at
+        → IsErrOf result (Refused (Line at.line at.place)) ⊎ IsErrOf result Wanting }
     ensures refused_writes_nothing { (fault : TheRunFault) → IsErrOf result (Refused fault) → (fault ≡ WriteFault) ⊎ (K.writing sink.new ≡ K.writing sink.old) }
     ensures write_fault_is_counted { IsErrOf result (Refused WriteFault) → Rose (K.writing sink.old).faults (K.writing sink.new).faults }
     ensures faults_never_fall { (K.writing sink.old).faults ≤ (K.writing sink.new).faults }
@@ -90,7 +93,8 @@ fn text_behind(
     requires loads { IsTrue (list_all (λ load. nat_lt (length load.bytes) (2 ^ 32)) loads.now) }
     ensures behind { IfOk result (λ text. Behind options script.now loads.now sql.now (string_bytes text)) }
     ensures refused { (fault : TheRunFault) → IsErrOf result (Refused fault) → IsRefusedFor options script.now loads.now sql.now fault }
-    ensures line_first { (at : TheLinePlace) → outside options.clients script.now ≡ Some at → IsErrOf result (Refused (Line at.line at.place)) ⊎ IsErrOf result Wanting }
+    ensures line_first { (at : TheLinePlace) → outside options.clients script.now ≡ Some at
+        → IsErrOf result (Refused (Line at.line at.place)) ⊎ IsErrOf result Wanting }
     ensures never_writes { ¬ IsErrOf result (Refused WriteFault) }
 {
     let text = match replay(alloc, options, script, loads, &mut Nowhere) {
@@ -118,7 +122,8 @@ fn text_of(alloc: Global, world: &World, query: &Result<Query, Fault>) -> Result
     requires world { StandsForSome world.now }
     requires first { 0 < length world.now.seats.items }
     requires means { (meaning : Result TheQuery TheFault) × Means world.now.server.tables.schema query.now meaning }
-    ensures { (s : Scene) (meaning : Result TheQuery TheFault) → Represents world.now s → Means world.now.server.tables.schema query.now meaning → IfOk result (λ text. IsTextFor s meaning (string_bytes text)) }
+    ensures { (s : Scene) (meaning : Result TheQuery TheFault) → Represents world.now s → Means world.now.server.tables.schema query.now meaning
+        → IfOk result (λ text. IsTextFor s meaning (string_bytes text)) }
 {
     let lines = lines_for(alloc, &world.seats[0].client, query)?;
     lines_text(

@@ -183,7 +183,8 @@ abbrev pub join : JoinOn → List Tok
 join j = key (codes "JOIN") ∷ name j.table j.table_place ∷ token Key (codes "ON") j.place ∷ (reference j.left ++ mark (codes "=") ∷ reference j.right)
 
 abbrev pub select : Select → List Tok
-select s = key (codes "SELECT") ∷ (listed s.all s.list ++ key (codes "FROM") ∷ name s.first s.first_place ∷ (flat_map join s.joins ++ where_tokens s.place s.filter))
+select s = key (codes "SELECT")
+    ∷ (listed s.all s.list ++ key (codes "FROM") ∷ name s.first s.first_place ∷ (flat_map join s.joins ++ where_tokens s.place s.filter))
 
 abbrev pub column_names : List Name → List Tok
 column_names [] = []

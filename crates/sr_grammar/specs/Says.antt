@@ -43,7 +43,8 @@ place_in text (t ∷ ts) = t.from
 -- the fault of a text that is outside the grammar
 abbrev pub IsOutside : List ℕ → Fault → Type 0
 IsOutside text fault =
-    (front : List Tok) × (rest : List Tok) × (tokens_of text ≡ front ++ rest) × Begins most_levels front × Stops fault.why front rest × (fault.at ≡ place_in text rest)
+    (front : List Tok) × (rest : List Tok) × (tokens_of text ≡ front ++ rest) × Begins most_levels front × Stops fault.why front rest
+    × (fault.at ≡ place_in text rest)
 
 -- what a text of at most 65,536 bytes says
 abbrev pub SaysShort : List ℕ → Result Statement Fault → Type 0

@@ -40,7 +40,8 @@ is kind text t = is_kind t.kind kind && bytes_eq t.text text
 abbrev pub reserved : List (List ℕ)
 reserved =
     codes "AND" ∷ codes "BETWEEN" ∷ codes "CHECK" ∷ codes "CREATE" ∷ codes "DELETE" ∷ codes "FROM" ∷ codes "IN" ∷ codes "INNER" ∷ codes "INSERT"
-    ∷ codes "INT" ∷ codes "INTEGER" ∷ codes "INTO" ∷ codes "IS" ∷ codes "JOIN" ∷ codes "KEY" ∷ codes "LIKE" ∷ codes "NOT" ∷ codes "NULL" ∷ codes "ON" ∷ codes "OR"
+    ∷ codes "INT" ∷ codes "INTEGER" ∷ codes "INTO" ∷ codes "IS" ∷ codes "JOIN" ∷ codes "KEY" ∷ codes "LIKE" ∷ codes "NOT" ∷ codes "NULL" ∷ codes "ON"
+    ∷ codes "OR"
     ∷ codes "PRIMARY" ∷ codes "SELECT" ∷ codes "SET" ∷ codes "TABLE" ∷ codes "TEXT" ∷ codes "UPDATE" ∷ codes "VALUES" ∷ codes "WHERE" ∷ []
 
 abbrev pub is_reserved : List ℕ → Bool

@@ -41,7 +41,8 @@ CreatesFor schema (Err (closed.Create line fault)) = FirstRefused most_clients 1
 -- a new client of that number, with these tables and limits
 abbrev pub Opens : List ℕ → Setting → Result Handle Closed → Type 0
 Opens schema s (Ok handle) =
-    (id : ℕ) × (limits : Limits) × (tables : List Table) × (limits_of s ≡ Some (id, limits)) × CreatesFor schema (Ok tables) × (handle ≡ new_handle id tables limits)
+    (id : ℕ) × (limits : Limits) × (tables : List Table) × (limits_of s ≡ Some (id, limits)) × CreatesFor schema (Ok tables)
+    × (handle ≡ new_handle id tables limits)
 Opens schema s (Err why) = CreatesFor schema (Err why)
 
 abbrev pub told_of_closed : Closed → Told

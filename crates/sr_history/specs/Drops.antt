@@ -31,7 +31,8 @@ DropsEach schema marks queries cause (k ∷ classes) (d ∷ drops) =
 
 -- all classes are dropped, in class order
 abbrev pub DropsAll : List Table → List Mark → List Numbered → Cause → List Mark → Type 0
-DropsAll schema marks queries cause drops = (classes : List Class) × AreClasses schema marks queries classes × DropsEach schema marks queries cause classes drops
+DropsAll schema marks queries cause drops =
+    (classes : List Class) × AreClasses schema marks queries classes × DropsEach schema marks queries cause classes drops
 
 -- held under strictly more columns
 abbrev pub is_held_wider : List Mark → ℕ → ℕ → Points

@@ -39,13 +39,16 @@ GridsAreFew = (columns : List Column) (parts : List Part) (rects : List Rect) �
 
 -- what is cut from such rects ends there too
 abbrev pub CutsKeepEnds : Type 0
-CutsKeepEnds = (columns : List Column) (parts : List Part) (given rects : List Rect) → AreCutFrom columns given rects → AllEndAmong columns parts given → AllEndAmong columns parts rects
+CutsKeepEnds = (columns : List Column) (parts : List Part) (given rects : List Rect) → AreCutFrom columns given rects
+    → AllEndAmong columns parts given → AllEndAmong columns parts rects
 
 -- nothing is lost where there are more parts
 abbrev pub MorePartsKeepEnds : Type 0
-MorePartsKeepEnds = (columns : List Column) (more parts others : List Part) (rects : List Rect) → AllEndAmong columns parts rects → AllEndAmong columns (more ++ (parts ++ others)) rects
+MorePartsKeepEnds = (columns : List Column) (more parts others : List Part) (rects : List Rect) → AllEndAmong columns parts rects
+    → AllEndAmong columns (more ++ (parts ++ others)) rects
 
 -- rects of the condition of one of the parts
 abbrev pub PartsHaveTheirEnds : Type 0
-PartsHaveTheirEnds = (columns : List Column) (parts : List Part) (part : Part) (rects : List Rect) → Contains parts part → AllByRecursion (EndsWith 0 columns part.condition) rects
+PartsHaveTheirEnds = (columns : List Column) (parts : List Part) (part : Part) (rects : List Rect) → Contains parts part
+    → AllByRecursion (EndsWith 0 columns part.condition) rects
     → AllEndAmong columns parts rects

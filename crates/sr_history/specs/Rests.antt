@@ -22,7 +22,8 @@ pub record IsRest (schema : List Table) (marks : List Mark) (part : Part) (ask :
   pub bound : IsTrue (list_all (constrains_only ask.attrs 0) ask.rects)
   pub some : HasPoint (table_at schema part.table).columns (rest_of marks part)
   pub same : AreSame (table_at schema part.table).columns (in_any ask.rects) (rest_of marks part)
-  pub columns : (c : ℕ) → IsTrue (has_column ask.attrs c) ↔ (IsTrue (has_column part.need c) ⊎ IsEssential (table_at schema part.table).columns (rest_of marks part) c)
+  pub columns : (c : ℕ) → IsTrue (has_column ask.attrs c)
+      ↔ (IsTrue (has_column part.need c) ⊎ IsEssential (table_at schema part.table).columns (rest_of marks part) c)
 
 -- what is asked: an entry for each part whose rest has a point, in the order of the parts
 pub data Asks (schema : List Table) (marks : List Mark) : List Part → List AskPart → Type 0 where

@@ -32,7 +32,11 @@ pub fn ends_inside_count()
     ensures first_and_last { ends_grid 0 (record { name = []; kind = Numbers; lo = pos 0; hi = pos 150; nullable = false } ∷ [])
         (record { table = 0; need = 1; condition = Tests 0 (Between (Num (pos 0)) (Num (pos 150))) } ∷ []) ≡ 1 }
     ensures once { ends_grid 0 (record { name = []; kind = Numbers; lo = pos 0; hi = pos 150; nullable = false } ∷ [])
-        (record { table = 0; need = 1; condition = Tests 0 (Ge (Num (pos 30))) } ∷ record { table = 0; need = 1; condition = Tests 0 (Lt (Num (pos 30))) } ∷ []) ≡ 2 }
+        (record { table = 0; need = 1; condition = Tests 0 (Ge (Num (pos 30))) } ∷ record {
+          table = 0;
+          need = 1;
+          condition = Tests 0 (Lt (Num (pos 30)));
+        } ∷ []) ≡ 2 }
     ensures other_column { ends_grid 0 (record { name = []; kind = Numbers; lo = pos 0; hi = pos 150; nullable = false } ∷ [])
         (record { table = 0; need = 3; condition = Tests 1 (Ge (Num (pos 30))) } ∷ []) ≡ 1 }
     ensures neighbours { ends_grid 0 (record { name = []; kind = Numbers; lo = pos 0; hi = pos 150; nullable = false } ∷ [])

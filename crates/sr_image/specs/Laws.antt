@@ -43,7 +43,8 @@ is_head schema before k = may_head schema before (head_of k) && is_from_to 0 409
 abbrev pub is_kept : List Table → List Kept → Kept → Bool
 is_kept schema before k =
     is_head schema before k
-    && (are_counted 1 16384 (is_rect (table_at schema k.table) k.attrs (count_rects before)) k.rects && are_counted 0 200000 (is_row (table_at schema k.table) k.attrs k.rects) k.rows)
+    && (are_counted 1 16384 (is_rect (table_at schema k.table) k.attrs (count_rects before)) k.rects
+    && are_counted 0 200000 (is_row (table_at schema k.table) k.attrs k.rects) k.rows)
 
 -- an image of what a client over the schema may hold
 abbrev pub is_image : List Table → Image → Bool
@@ -51,16 +52,19 @@ is_image schema image = nat_lt image.version (2 ^ 64) && are_counted 0 1024 (is_
 
 -- What is written is read again.
 abbrev pub ReadAgain : Type 0
-ReadAgain = (schema : List Table) (image : Image) → IsTrue (is_image schema image) → IsTrue (may_write_schema schema) → length (image_bytes schema image) < 2 ^ 64
+ReadAgain = (schema : List Table) (image : Image) → IsTrue (is_image schema image) → IsTrue (may_write_schema schema)
+    → length (image_bytes schema image) < 2 ^ 64
     → image_in schema (image_bytes schema image) ≡ Ok image
 
 -- What is read as an image is one, and was spelled just so.
 abbrev pub WasSpelled : Type 0
-WasSpelled = (schema : List Table) (bytes : List ℕ) (image : Image) → IsTrue (are_bytes bytes) → image_in schema bytes ≡ Ok image → (bytes ≡ image_bytes schema image) × IsTrue (is_image schema image)
+WasSpelled = (schema : List Table) (bytes : List ℕ) (image : Image) → IsTrue (are_bytes bytes) → image_in schema bytes ≡ Ok image
+    → (bytes ≡ image_bytes schema image) × IsTrue (is_image schema image)
 
 -- No beginning of an image but the whole is one: it is short.
 abbrev pub NoneBegins : Type 0
-NoneBegins = (schema : List Table) (front : List ℕ) (b : ℕ) (more : List ℕ) (image : Image) → image_in schema (front ++ b ∷ more) ≡ Ok image → image_in schema front ≡ Err Short
+NoneBegins = (schema : List Table) (front : List ℕ) (b : ℕ) (more : List ℕ) (image : Image) → image_in schema (front ++ b ∷ more) ≡ Ok image
+    → image_in schema front ≡ Err Short
 
 -- Each such image may be written.
 abbrev pub MayBeWritten : Type 0
@@ -81,5 +85,6 @@ is_spellable r = list_all has_rect_bytes r.rects && list_all has_row_bytes r.row
 -- The image of a store of at most 1,024 regions and 200,000 rows, with such rects and rows, is one: what is written of it is read again.
 abbrev pub IsOfStore : Type 0
 IsOfStore = (schema : List Table) (version : ℕ) (regions : List Region)
-    → IsTrue (list_all is_table schema) → IsStore schema regions → IsTrue (list_all is_spellable regions) → version < 2 ^ 64 → length regions ≤ 1024 → count_rows regions ≤ 200000
+    → IsTrue (list_all is_table schema) → IsStore schema regions → IsTrue (list_all is_spellable regions) → version < 2 ^ 64 → length regions ≤ 1024
+    → count_rows regions ≤ 200000
     → IsTrue (is_image schema (image_from version regions))

@@ -136,7 +136,8 @@ fn is_at(rects: &[Rect], place: usize, sought: &Sought) -> bool
 fn passed(levels: &[Level], order: &[usize], at: usize, sought: &Sought) -> usize
     requires { at ≤ length order.now }
     ensures on { at ≤ result }
-    ensures none { (rects : List Spans) → are_levels rects order.now levels.now ≡ true → list_any (found_at sought.now rects) (drop at order.now) ≡ list_any (found_at sought.now rects) (drop result order.now) }
+    ensures none { (rects : List Spans) → are_levels rects order.now levels.now ≡ true
+        → list_any (found_at sought.now rects) (drop at order.now) ≡ list_any (found_at sought.now rects) (drop result order.now) }
 {
     for level in levels {
         if is_passed(level, at, sought) {

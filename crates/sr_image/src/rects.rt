@@ -86,7 +86,8 @@ fn each_lone<'a>(
     count: u32,
 ) -> Result<Rects, No<BadField>>
     requires { part.now.many ≤ 16384 }
-    ensures read { ReadsOr result bytes.new (each_behind (λ before. passing (is_lone part.now.table.now part.now.attrs part.now.many (length before)) a_rect) count [] bytes.old) }
+    ensures read { ReadsOr result bytes.new
+        (each_behind (λ before. passing (is_lone part.now.table.now part.now.attrs part.now.many (length before)) a_rect) count [] bytes.old) }
     ensures few { IfOk result (λ rects. part.now.many + length rects ≤ 16384) }
 {
     let mut rects = Rects::new(alloc);
@@ -130,7 +131,8 @@ fn each_rect<'a>(
     count: u32,
 ) -> Result<Rects, No<BadField>>
     requires { part.now.many ≤ 16384 }
-    ensures read { ReadsOr result bytes.new (each_behind (λ before. passing (may_rect part.now.table.now part.now.attrs part.now.many before) a_rect) count [] bytes.old) }
+    ensures read { ReadsOr result bytes.new
+        (each_behind (λ before. passing (may_rect part.now.table.now part.now.attrs part.now.many before) a_rect) count [] bytes.old) }
     ensures few { IfOk result (λ rects. part.now.many + length rects ≤ 16384) }
 {
     let mut rects = Rects::new(alloc);
@@ -151,7 +153,8 @@ fn apart_rects<'a>(
     count: u32,
 ) -> Result<Rects, No<BadField>>
     requires { part.now.many ≤ 16384 }
-    ensures read { ReadsOr result bytes.new (each_behind (λ before. passing (may_rect part.now.table.now part.now.attrs part.now.many before) a_rect) count [] bytes.old) }
+    ensures read { ReadsOr result bytes.new
+        (each_behind (λ before. passing (may_rect part.now.table.now part.now.attrs part.now.many before) a_rect) count [] bytes.old) }
     ensures few { IfOk result (λ rects. part.now.many + length rects ≤ 16384) }
 {
     let at = bytes.left();

@@ -92,7 +92,8 @@ fn each_row<'a>(
     count: u32,
 ) -> Result<Rows, No<BadField>>
     requires { IsIndex part.now.rects.now index.now }
-    ensures { ReadsOr result bytes.new (each_behind (λ before. passing (may_row part.now.table.now part.now.attrs part.now.rects.now before) a_row) count [] bytes.old) }
+    ensures { ReadsOr result bytes.new
+        (each_behind (λ before. passing (may_row part.now.table.now part.now.attrs part.now.rects.now before) a_row) count [] bytes.old) }
 {
     let mut rows = Rows::new(alloc);
     for _ in 0..count {

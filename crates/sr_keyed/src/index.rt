@@ -108,7 +108,8 @@ fn put_place(places: &mut BTreeSet<Place>, place: Place) -> Result<(), NoMemory>
 
 /// Takes a place out.
 fn take_place(places: &mut BTreeSet<Place>, place: &Place)
-    ensures { (p : ThePlace) → is_at (⟦<Place as Ord>⟧.cmp place.now) p ≡ false → contains ⟦<Place as Ord>⟧.cmp places.old p ≡ true → contains ⟦<Place as Ord>⟧.cmp places.new p ≡ true }
+    ensures { (p : ThePlace) → is_at (⟦<Place as Ord>⟧.cmp place.now) p ≡ false → contains ⟦<Place as Ord>⟧.cmp places.old p ≡ true
+        → contains ⟦<Place as Ord>⟧.cmp places.new p ≡ true }
 {
     places.remove(place);
 }
@@ -138,7 +139,8 @@ fn take_places(
     key: usize,
     row: &Row,
 ) -> Result<(), NoMemory>
-    ensures others { (c : ℕ) (other : TheRow) → cell_eq (cell_at other key) (cell_at row.now key) ≡ false → contains ⟦<Place as Ord>⟧.cmp places.old (place_of key c other) ≡ true → contains ⟦<Place as Ord>⟧.cmp places.new (place_of key c other) ≡ true }
+    ensures others { (c : ℕ) (other : TheRow) → cell_eq (cell_at other key) (cell_at row.now key) ≡ false
+        → contains ⟦<Place as Ord>⟧.cmp places.old (place_of key c other) ≡ true → contains ⟦<Place as Ord>⟧.cmp places.new (place_of key c other) ≡ true }
 {
     for i in 0..columns.len() {
         let place = place_of(alloc, key, columns[i], row)?;
@@ -196,7 +198,8 @@ fn keys_between(
     last: &Place,
 ) -> Result<BTreeSet<Cell>, NoMemory>
     requires { IsForward (IsLeBy ⟦<Place as Ord>⟧.cmp) (IsLtBy ⟦<Place as Ord>⟧.cmp) (From first.now) (From last.now) }
-    ensures { IfOk result (λ keys. list_all (λ p. has_spot ⟦<Cell as Ord>⟧.cmp keys p.key) (keys_between ⟦<Place as Ord>⟧.cmp (From first.now) (From last.now) places.now) ≡ true) }
+    ensures { IfOk result (λ keys. list_all (λ p. has_spot ⟦<Cell as Ord>⟧.cmp keys p.key)
+        (keys_between ⟦<Place as Ord>⟧.cmp (From first.now) (From last.now) places.now) ≡ true) }
 {
     let mut keys = BTreeSet::new(alloc);
     for place in places.range((Bound::Included(first), Bound::Included(last))) {
@@ -225,7 +228,10 @@ fn near_keys(
     most: usize,
 ) -> Result<Option<BTreeSet<Cell>>, NoMemory>
     requires { are_in_order (option_copied low) (option_copied high) ≡ true }
-    ensures { IfOk result (λ near. IfSome near (λ keys. list_all (λ p. has_spot ⟦<Cell as Ord>⟧.cmp keys p.key) (keys_between ⟦<Place as Ord>⟧.cmp (From (first_place column (option_copied low.entry))) (From (last_place column (option_copied high.entry))) places.now) ≡ true)) }
+    ensures { IfOk result (λ near.
+        IfSome near (λ keys. list_all (λ p. has_spot ⟦<Cell as Ord>⟧.cmp keys p.key)
+        (keys_between ⟦<Place as Ord>⟧.cmp (From (first_place column (option_copied low.entry)))
+        (From (last_place column (option_copied high.entry))) places.now) ≡ true)) }
 {
     let first = first_place(alloc, column, low)?;
     let last = last_place(alloc, column, high)?;
@@ -263,7 +269,8 @@ impl Index {
 
     /// One row more.
     pub(crate) fn add(&mut self, key: usize, row: &Row)
-        ensures stays { (other : TheRow) → is_indexed ⟦<Place as Ord>⟧.cmp self.old key other ≡ true → is_indexed ⟦<Place as Ord>⟧.cmp self.new key other ≡ true }
+        ensures stays { (other : TheRow) → is_indexed ⟦<Place as Ord>⟧.cmp self.old key other ≡ true
+            → is_indexed ⟦<Place as Ord>⟧.cmp self.new key other ≡ true }
         ensures added { is_indexed ⟦<Place as Ord>⟧.cmp self.new key row.now ≡ true }
     {
         match add_places(
@@ -280,7 +287,8 @@ impl Index {
 
     /// One row less.
     pub(crate) fn remove(&mut self, key: usize, row: &Row)
-        ensures { (other : TheRow) → cell_eq (cell_at other key) (cell_at row.now key) ≡ false → is_indexed ⟦<Place as Ord>⟧.cmp self.old key other ≡ true → is_indexed ⟦<Place as Ord>⟧.cmp self.new key other ≡ true }
+        ensures { (other : TheRow) → cell_eq (cell_at other key) (cell_at row.now key) ≡ false
+            → is_indexed ⟦<Place as Ord>⟧.cmp self.old key other ≡ true → is_indexed ⟦<Place as Ord>⟧.cmp self.new key other ≡ true }
     {
         match take_places(
             &mut self.places,
@@ -301,7 +309,8 @@ impl Index {
         column: usize,
         rows: &BTreeMap<Cell, Row>,
     ) -> Result<(), NoMemory>
-        ensures { OnOk result (list_all (is_indexed ⟦<Place as Ord>⟧.cmp self.old key) (values rows.now) ≡ true → list_all (is_indexed ⟦<Place as Ord>⟧.cmp self.new key) (values rows.now) ≡ true) }
+        ensures { OnOk result (list_all (is_indexed ⟦<Place as Ord>⟧.cmp self.old key) (values rows.now) ≡ true
+            → list_all (is_indexed ⟦<Place as Ord>⟧.cmp self.new key) (values rows.now) ≡ true) }
     {
         add_column(&mut self.places, self.alloc, key, column, rows)?;
         self.columns.push(column)?;
@@ -310,7 +319,8 @@ impl Index {
 
     /// Sees to it that all rows have places by a column.
     pub(crate) fn index(&mut self, key: usize, column: usize, rows: &BTreeMap<Cell, Row>)
-        ensures { list_all (is_indexed ⟦<Place as Ord>⟧.cmp self.old key) (values rows.now) ≡ true → list_all (is_indexed ⟦<Place as Ord>⟧.cmp self.new key) (values rows.now) ≡ true }
+        ensures { list_all (is_indexed ⟦<Place as Ord>⟧.cmp self.old key) (values rows.now) ≡ true
+            → list_all (is_indexed ⟦<Place as Ord>⟧.cmp self.new key) (values rows.now) ≡ true }
     {
         if self.columns.as_slice().contains(&column) {
             return;
@@ -331,7 +341,8 @@ impl Index {
         high: Option<&Cell>,
         most: usize,
     ) -> Option<BTreeSet<Cell>>
-        ensures { IfSome result (λ keys. (key : ℕ) (row : TheRow) → is_indexed ⟦<Place as Ord>⟧.cmp self.now key row ≡ true → is_between column (option_copied low.entry) (option_copied high.entry) row ≡ true → contains ⟦<Cell as Ord>⟧.cmp keys (cell_at row key) ≡ true) }
+        ensures { IfSome result (λ keys. (key : ℕ) (row : TheRow) → is_indexed ⟦<Place as Ord>⟧.cmp self.now key row ≡ true
+            → is_between column (option_copied low.entry) (option_copied high.entry) row ≡ true → contains ⟦<Cell as Ord>⟧.cmp keys (cell_at row key) ≡ true) }
     {
         if !self.columns.as_slice().contains(&column) {
             return None;

@@ -49,7 +49,8 @@ impl Model for KeyedRows {
 
     ghost view = { λ a. record { key = a.key; kind = a.kind; rows = values a.rows } };
 
-    ghost invariant = { λ a. AreKeyed a.key a.kind a.rows.entries × IsOrdered ⟦<Cell as Ord>⟧.cmp a.rows × IsTrue (list_all are_values (values a.rows)) × IsTrue (list_all (is_indexed ⟦<Place as Ord>⟧.cmp a.index a.key) (values a.rows)) };
+    ghost invariant = { λ a. AreKeyed a.key a.kind a.rows.entries × IsOrdered ⟦<Cell as Ord>⟧.cmp a.rows
+        × IsTrue (list_all are_values (values a.rows)) × IsTrue (list_all (is_indexed ⟦<Place as Ord>⟧.cmp a.index a.key) (values a.rows)) };
 }
 
 // Facts, which do nothing: what a text's type says of its bytes.
@@ -157,7 +158,8 @@ fn rows_between<'a, 'b>(
     high: Bound<&'b Cell>,
 ) -> Result<Vec<&'a Row>, NoMemory>
     requires { IsForward (IsLeBy ⟦<Cell as Ord>⟧.cmp) (IsLtBy ⟦<Cell as Ord>⟧.cmp) (bound_map (λ x. x.now) low) (bound_map (λ x. x.now) high) }
-    ensures { IfOk result (λ found. map (λ r. r.now) found.items ≡ values_of (entries_between ⟦<Cell as Ord>⟧.cmp (bound_map (λ x. x.now) low.entry) (bound_map (λ x. x.now) high.entry) rows.now.entries)) }
+    ensures { IfOk result (λ found. map (λ r. r.now) found.items
+        ≡ values_of (entries_between ⟦<Cell as Ord>⟧.cmp (bound_map (λ x. x.now) low.entry) (bound_map (λ x. x.now) high.entry) rows.now.entries)) }
 {
     let mut found = Vec::new(alloc);
     for (_, row) in rows.range((low, high)) {
@@ -199,7 +201,8 @@ fn push_near<'a>(
     low: Option<&Cell>,
     high: Option<&Cell>,
 ) -> Result<(), NoMemory>
-    ensures { OnOk result (map (λ r. r.now) found.new.items ≡ map (λ r. r.now) found.old.items ++ if_passes (is_between column (option_copied low.entry) (option_copied high.entry)) (option_copied row.entry)) }
+    ensures { OnOk result (map (λ r. r.now) found.new.items
+        ≡ map (λ r. r.now) found.old.items ++ if_passes (is_between column (option_copied low.entry) (option_copied high.entry)) (option_copied row.entry)) }
 {
     match row {
         Some(row) if is_between(row, column, low, high) => found.push(row)?,
@@ -218,7 +221,8 @@ fn rows_at<'a>(
     high: Option<&Cell>,
 ) -> Result<Vec<&'a Row>, NoMemory>
     ensures ordered { IsStrictlySortedBy ⟦<Cell as Ord>⟧.cmp keys.now.keys }
-    ensures found { IfOk result (λ found. map (λ r. r.now) found.items ≡ rows_at ⟦<Cell as Ord>⟧.cmp (is_between column (option_copied low.entry) (option_copied high.entry)) rows.now.entries keys.now.keys) }
+    ensures found { IfOk result (λ found. map (λ r. r.now) found.items
+        ≡ rows_at ⟦<Cell as Ord>⟧.cmp (is_between column (option_copied low.entry) (option_copied high.entry)) rows.now.entries keys.now.keys) }
 {
     let mut found = Vec::new(alloc);
     for key in keys {
@@ -230,7 +234,8 @@ fn rows_at<'a>(
 /// Takes the row of that key out of the index.
 fn forget(index: &mut Index, rows: &BTreeMap<Cell, Row>, key: usize, value: &Cell)
     requires { (kind : TheKind) × AreKeyed key kind rows.now.entries }
-    ensures { (other : TheRow) → cell_eq (cell_at other key) value.now ≡ false → is_indexed ⟦<Place as Ord>⟧.cmp index.old key other ≡ true → is_indexed ⟦<Place as Ord>⟧.cmp index.new key other ≡ true }
+    ensures { (other : TheRow) → cell_eq (cell_at other key) value.now ≡ false → is_indexed ⟦<Place as Ord>⟧.cmp index.old key other ≡ true
+        → is_indexed ⟦<Place as Ord>⟧.cmp index.new key other ≡ true }
 {
     if index.is_empty() {
         return;
@@ -358,7 +363,8 @@ impl KeyedRows {
         low: Option<&Cell>,
         high: Option<&Cell>,
     ) -> Result<Vec<&'a Row>, NoMemory>
-        ensures { IfOk result (λ rows. map (λ r. r.now) rows.items ≡ filter (is_between self.now.key (option_copied low.entry) (option_copied high.entry)) self.now.rows) }
+        ensures { IfOk result (λ rows. map (λ r. r.now) rows.items
+            ≡ filter (is_between self.now.key (option_copied low.entry) (option_copied high.entry)) self.now.rows) }
     {
         let null = Cell::Null;
         let low = low_of(self.kind, low, &null);
@@ -385,7 +391,8 @@ impl KeyedRows {
         low: Option<&Cell>,
         high: Option<&Cell>,
     ) -> Option<Vec<&'a Row>>
-        ensures { IfSome result (λ rows. map (λ r. r.now) rows.items ≡ filter (is_between column (option_copied low.entry) (option_copied high.entry)) self.now.rows) }
+        ensures { IfSome result (λ rows. map (λ r. r.now) rows.items
+            ≡ filter (is_between column (option_copied low.entry) (option_copied high.entry)) self.now.rows) }
     {
         let most = self.rows.len() / 16;
         match self.index.near(alloc, column, low, high, most) {

@@ -61,11 +61,13 @@ IsOwn line = is_some (doer_of (words_seen line.words)) ≡ true
 -- So it is of a query, whatever comes behind it; of a line; and of an answer to a text of the join that is under way.
 abbrev pub HandsQuery : List Table → ℕ → ℕ → List ℕ → Handed → Type 0
 HandsQuery schema number client sql h =
-    (said : Said) (rest : Plan Task Answer) → AreSaid said → Hands schema said rest (query_plan schema said number client sql (sides_if schema (said sql)) rest) h
+    (said : Said) (rest : Plan Task Answer) → AreSaid said
+    → Hands schema said rest (query_plan schema said number client sql (sides_if schema (said sql)) rest) h
 
 abbrev pub HandsLine : List Table → TextLine → Handed → Type 0
 HandsLine schema line h =
-    (said : Said) (rest : Plan Task Answer) → AreSaid said → IsOwn line → Hands schema said rest (line_plan schema said line.number (words_seen line.words) rest) h
+    (said : Said) (rest : Plan Task Answer) → AreSaid said → IsOwn line
+    → Hands schema said rest (line_plan schema said line.number (words_seen line.words) rest) h
 
 abbrev pub HandsOn : List Table → Going → Answer → Handed → Type 0
 HandsOn schema g a h = (said : Said) (rest : Plan Task Answer) → AreSaid said → Hands schema said rest (ahead_by schema said (Some g) rest (Some a)) h

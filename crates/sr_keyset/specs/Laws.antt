@@ -31,11 +31,13 @@ TasksAreAskedFor = (schema : List Table) (said : Said) (lines : List (ℕ × Wor
 
 -- So it is of what a client's files ask for.
 abbrev pub FilesAskForNone : Type 0
-FilesAskForNone = (id : ℕ) (schema script : List ℕ) (tables : List Table) (ahead : Ahead) → AsksKeySets id schema script tables ahead → AllTasks IsAskedFor (ahead None)
+FilesAskForNone = (id : ℕ) (schema script : List ℕ) (tables : List Table) (ahead : Ahead) → AsksKeySets id schema script tables ahead
+    → AllTasks IsAskedFor (ahead None)
 
 -- Each query that they ask has at most four parts: as those of a script, so few that over an honest link too many frames never come for one.
 abbrev pub FilesAskFew : Type 0
-FilesAskFew = (id : ℕ) (schema script : List ℕ) (tables : List Table) (ahead : Ahead) → AsksKeySets id schema script tables ahead → AllTasks AsksFew (ahead None)
+FilesAskFew = (id : ℕ) (schema script : List ℕ) (tables : List Table) (ahead : Ahead) → AsksKeySets id schema script tables ahead
+    → AllTasks AsksFew (ahead None)
 
 -- ---- how many queries are run
 
@@ -76,6 +78,8 @@ WhatIsWrittenIsRight = (tables : List Table) (said : Said) (db : Database) (line
 -- What goes by the plan of the files, each thing in its place and each step true, as over an honest link to a server of these tables, writes
 -- right texts alone.
 abbrev pub KeySetsAreRight : Type 0 → Type 0
-KeySetsAreRight C = (keeps : Bool) (db : Database) (limits : Limits) (c : Client) (ds : List (Done C)) (id : ℕ) (schema script : List ℕ) (tables : List Table) (ahead : Ahead)
-    → AsksKeySets id schema script tables ahead → db.schema ≡ tables → IsSound db → AreInPlace tables 0 c ds → GoBy (begun (Next 0 (Do Resumed) ahead)) (dids_of keeps ds) → AreTrueSteps db limits c (steps_in ds)
+KeySetsAreRight C = (keeps : Bool) (db : Database) (limits : Limits) (c : Client) (ds : List (Done C)) (id : ℕ) (schema script : List ℕ)
+    (tables : List Table) (ahead : Ahead)
+    → AsksKeySets id schema script tables ahead → db.schema ≡ tables → IsSound db → AreInPlace tables 0 c ds
+    → GoBy (begun (Next 0 (Do Resumed) ahead)) (dids_of keeps ds) → AreTrueSteps db limits c (steps_in ds)
     → AllSaid (IsRightText tables db (words_in script)) ds

@@ -17,4 +17,5 @@ needs_own schema q = list_all (part_needs_own schema) q.parts
 
 -- so does each part of each query that a statement asks of tables that a schema takes
 abbrev pub BoundNeedOwn : Type 0
-BoundNeedOwn = (schema : List Table) (s : tree.Statement) (q : Query) → list_all is_table schema ≡ true → bound_query schema s ≡ Ok q → needs_own schema q ≡ true
+BoundNeedOwn = (schema : List Table) (s : tree.Statement) (q : Query) → list_all is_table schema ≡ true → bound_query schema s ≡ Ok q
+    → needs_own schema q ≡ true

@@ -23,7 +23,8 @@ use Rattle.sr_links.specs.Honest.{Server, Input, Talk, Explains, Rests, IsTalk, 
 
 -- An answer has the rows of its query on the tables of the version that it names.
 abbrev pub IsTrueAnswer : Database → Deed → Client → Outcome → Type 0
-IsTrueAnswer db deed c (Answered number version rows marks) = (q : Query) × (query_of deed c ≡ Some q) × (version ≤ newest db) × (rows ≡ rows_of q (tables_of db version))
+IsTrueAnswer db deed c (Answered number version rows marks) =
+    (q : Query) × (query_of deed c ≡ Some q) × (version ≤ newest db) × (rows ≡ rows_of q (tables_of db version))
 IsTrueAnswer db deed c other = Unit {0}
 
 -- A message that is taken is none that must be refused.
@@ -33,7 +34,8 @@ FitsIf db c other = Unit {0}
 
 -- An ask asks what is not covered of its query, by the marks that are left once the drops are made, in at most so many rects.
 abbrev pub IsTrueAsk : Database → Deed → Client → Outcome → Type 0
-IsTrueAsk db deed c (AskSent drops request fresh parts) = (q : Query) × (query_of deed c ≡ Some q) × Asks db.schema (with_marks c.marks drops) q.parts parts × (count_asked parts ≤ most_rects)
+IsTrueAsk db deed c (AskSent drops request fresh parts) =
+    (q : Query) × (query_of deed c ≡ Some q) × Asks db.schema (with_marks c.marks drops) q.parts parts × (count_asked parts ≤ most_rects)
 IsTrueAsk db deed c other = Unit {0}
 
 -- A query of which each point is covered sends nothing.
@@ -87,20 +89,23 @@ WholeTalksEndFree {C} IsOf = (limits : Limits) (s : Server) (code : C) (c : Clie
 -- Behind each step the client has the rows of its version, which is one of the database.
 abbrev pub HaveRows : {C : Type 0} → Standing C → Database → List (Step C) → Type 0
 HaveRows {C} IsOf db [] = Unit {0}
-HaveRows {C} IsOf db (step ∷ steps) = ((step.past.version ≤ newest db) × IsOf db.schema step.code step.past (tables_of db step.past.version)) × HaveRows IsOf db steps
+HaveRows {C} IsOf db (step ∷ steps) =
+    ((step.past.version ≤ newest db) × IsOf db.schema step.code step.past (tables_of db step.past.version)) × HaveRows IsOf db steps
 
 -- Over an honest link that is so behind each step of a client that keeps to its rules over any link: what it says then of what it has is
 -- said of the server's versions.
 abbrev pub ClientsHaveTheRows : {C : Type 0} → Standing C → Type 0
 ClientsHaveTheRows {C} IsOf = (limits : Limits) (s : Server) (code : C) (c : Client) (talks : List (Talk C)) (pieces : List (List Input)) → AsksKeys IsOf
     → IsSound s.database → list_all is_table s.database.schema ≡ true → IsSound (server_at_last s pieces).database → Rests IsOf s.database code c
-    → AreTalks IsOf limits code c talks → AreRuled c (steps_of talks) → IsHonest s pieces talks → HaveRows IsOf (server_at_last s pieces).database (steps_of talks)
+    → AreTalks IsOf limits code c talks → AreRuled c (steps_of talks) → IsHonest s pieces talks
+    → HaveRows IsOf (server_at_last s pieces).database (steps_of talks)
 
 -- So it is for any client where no session is open at first, and it is closed behind each connection and nowhere else.
 abbrev pub ServedClientsHaveTheRows : {C : Type 0} → Standing C → Type 0
 ServedClientsHaveTheRows {C} IsOf = (limits : Limits) (s : Server) (code : C) (c : Client) (talks : List (Talk C)) (pieces : List (List Input)) → AsksKeys IsOf
     → s.session ≡ None → AreClosedBehind pieces → IsSound s.database → list_all is_table s.database.schema ≡ true → IsSound (server_at_last s pieces).database
-    → Rests IsOf s.database code c → AreTalks IsOf limits code c talks → IsHonest s pieces talks → HaveRows IsOf (server_at_last s pieces).database (steps_of talks)
+    → Rests IsOf s.database code c → AreTalks IsOf limits code c talks → IsHonest s pieces talks
+    → HaveRows IsOf (server_at_last s pieces).database (steps_of talks)
 
 -- A line queries while nothing is out, and messages are taken behind it: each answer among these steps is that of the line's query.
 abbrev pub LinesAnswerTheirQueries : {C : Type 0} → Standing C → Type 0

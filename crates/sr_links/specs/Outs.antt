@@ -10,7 +10,8 @@ use Rattle.sr_links.specs.Steps.{Deed, Took, Step}
 
 -- What is sent is out then: an ask is of the query that it asks for. What ends a request leaves none out, and all else what was out.
 abbrev pub LeavesOut : Deed → Client → Outcome → Client → Type 0
-LeavesOut deed c (AskSent drops request fresh parts) next = (number : ℕ) × (q : Query) × (query_of deed c ≡ Some q) × (next.out ≡ Some (AskOut request number q fresh parts))
+LeavesOut deed c (AskSent drops request fresh parts) next =
+    (number : ℕ) × (q : Query) × (query_of deed c ≡ Some q) × (next.out ≡ Some (AskOut request number q fresh parts))
 LeavesOut deed c (WriteSent request sql) next = next.out ≡ Some (WriteOut request)
 LeavesOut deed c (ResumeSent message) next = (number : ℕ) × (next.out ≡ Some (ResumeOut number))
 LeavesOut deed c (Answered query version rows marks) next = next.out ≡ None

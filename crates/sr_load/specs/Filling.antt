@@ -16,7 +16,8 @@ use Rattle.sr_load.specs.declared.fill.LoadFault.{LoadFault}
 -- the rows of a file go into this table, beside those that are there; the whole file is read first
 abbrev pub into_table : List Table → List ℕ → Tables → Option ℕ → Result Tables Fault
 into_table schema bytes tables None = fault UnknownTable 0
-into_table schema bytes tables (Some t) = loaded (table_at schema t) bytes >>= λ rows. with_table tables t (rows_loaded (table_at schema t) 1 rows (rows_at tables t))
+into_table schema bytes tables (Some t) =
+    loaded (table_at schema t) bytes >>= λ rows. with_table tables t (rows_loaded (table_at schema t) 1 rows (rows_at tables t))
 
 abbrev pub with_file : List Table → Load → Tables → Result Tables Fault
 with_file schema load tables = into_table schema load.bytes tables (table_named schema load.table)

@@ -50,7 +50,8 @@ fn load_record(
     requires table { table < length tables.old.schema }
     requires width { length row ≡ length (table_at tables.old.schema table).columns }
     ensures loaded { OnOk result (with_loaded tables.old.schema table row tables.old.rows ≡ Ok tables.new.rows) }
-    ensures refused { (fault : TheFault) → IsErrOf result (Refused fault) → of_record number (load_fault (table_at tables.old.schema table) (rows_at tables.old.rows table) row) ≡ Some fault }
+    ensures refused { (fault : TheFault) → IsErrOf result (Refused fault)
+        → of_record number (load_fault (table_at tables.old.schema table) (rows_at tables.old.rows table) row) ≡ Some fault }
     ensures schema { tables.new.schema ≡ tables.old.schema }
 {
     match tables.load(alloc, table, row) {
@@ -69,8 +70,10 @@ fn load_rows(alloc: Global, tables: &mut Tables, table: u8, rows: Rows) -> Resul
     requires there { table < length tables.old.rows }
     requires widths { list_all (λ row. length row == length (table_at tables.old.schema table).columns) rows ≡ true }
     requires few { length rows < 2 ^ 32 }
-    ensures loaded { OnOk result (with_table tables.old.rows table (rows_loaded (table_at tables.old.schema table) 1 rows (rows_at tables.old.rows table)) ≡ Ok tables.new.rows) }
-    ensures refused { (fault : TheFault) → IsErrOf result (Refused fault) → with_table tables.old.rows table (rows_loaded (table_at tables.old.schema table) 1 rows (rows_at tables.old.rows table)) ≡ Err fault }
+    ensures loaded { OnOk result
+        (with_table tables.old.rows table (rows_loaded (table_at tables.old.schema table) 1 rows (rows_at tables.old.rows table)) ≡ Ok tables.new.rows) }
+    ensures refused { (fault : TheFault) → IsErrOf result (Refused fault)
+        → with_table tables.old.rows table (rows_loaded (table_at tables.old.schema table) 1 rows (rows_at tables.old.rows table)) ≡ Err fault }
     ensures schema { tables.new.schema ≡ tables.old.schema }
 {
     let mut number: u32 = 0;

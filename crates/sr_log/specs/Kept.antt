@@ -18,4 +18,5 @@ kept limit all = drop (floor limit all) all
 
 -- The others have at most `limit` changes, and no lesser number would do.
 abbrev pub FloorIsLeast : Type 0
-FloorIsLeast = (limit : ℕ) (all : List (List Change)) → (total (kept limit all) ≤ limit) × ((left_out : ℕ) → total (drop left_out all) ≤ limit → floor limit all ≤ left_out)
+FloorIsLeast = (limit : ℕ) (all : List (List Change))
+    → (total (kept limit all) ≤ limit) × ((left_out : ℕ) → total (drop left_out all) ≤ limit → floor limit all ≤ left_out)

@@ -27,7 +27,12 @@ impl Model for Log {
 
     ghost Value = { Held };
 
-    ghost view = { λ l. record { limit = l.limit; floor = l.floor; kept = changes_of (drop l.gone l.entries.items); room = vec_capacity l.entries - vec_len l.entries } };
+    ghost view = { λ l. record {
+      limit = l.limit;
+      floor = l.floor;
+      kept = changes_of (drop l.gone l.entries.items);
+      room = vec_capacity l.entries - vec_len l.entries;
+    } };
 
     ghost invariant = { λ l. (l.gone ≤ vec_len l.entries)
         × (drop l.gone l.entries.items ≡ numbered l.floor (changes_of (drop l.gone l.entries.items)))

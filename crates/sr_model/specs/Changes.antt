@@ -24,7 +24,12 @@ all_keys key old new = fold (λ rows row. if has_key key (cell_at row key) rows 
 abbrev pub table_changes : Table → ℕ → List Row → List Row → List Change
 table_changes table t old new =
     filter (λ c. not (same_row c.before c.after))
-    (map (λ row. record { table = t; key = cell_at row table.key; before = row_with table.key (cell_at row table.key) old; after = row_with table.key (cell_at row table.key) new })
+    (map (λ row. record {
+      table = t;
+      key = cell_at row table.key;
+      before = row_with table.key (cell_at row table.key) old;
+      after = row_with table.key (cell_at row table.key) new;
+    })
     (all_keys table.key old new))
 
 -- by table and key ascending; t is the number of the first table

@@ -59,4 +59,5 @@ output_of outputs rows = map (λ o. cell_at (row_at rows o.part) o.column) outpu
 -- The tables' rows stand by key, so the answer stands by the key of the first table.
 abbrev pub rows_of : Query → List (List Row) → List Row
 rows_of q tables =
-    map (output_of q.outputs) (filter (λ rows. joins_hold q.joins rows && all_meet q.parts rows) (combinations (map (λ part. rows_at tables part.table) q.parts)))
+    map (output_of q.outputs)
+    (filter (λ rows. joins_hold q.joins rows && all_meet q.parts rows) (combinations (map (λ part. rows_at tables part.table) q.parts)))

@@ -68,6 +68,7 @@ pub fn ends_are_of_the_whole_test()
 
 /// A row goes to its place by key.
 pub fn rows_stand_by_key()
-    ensures placed { with_row 0 ((Num (pos 1) ∷ []) ∷ (Num (pos 5) ∷ []) ∷ []) (Num (pos 3) ∷ []) ≡ (Num (pos 1) ∷ []) ∷ (Num (pos 3) ∷ []) ∷ (Num (pos 5) ∷ []) ∷ [] }
+    ensures placed { with_row 0 ((Num (pos 1) ∷ []) ∷ (Num (pos 5) ∷ []) ∷ []) (Num (pos 3) ∷ [])
+        ≡ (Num (pos 1) ∷ []) ∷ (Num (pos 3) ∷ []) ∷ (Num (pos 5) ∷ []) ∷ [] }
     ensures once { ascend 0 ((Num (pos 1) ∷ []) ∷ (Num (pos 1) ∷ []) ∷ []) ≡ false }
 {}

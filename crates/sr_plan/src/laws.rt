@@ -21,11 +21,14 @@ pub fn one_more_goes_by<T, A>()
 
 /// What holds of each task that a plan may come to holds of all that are done.
 pub fn tasks_are_of_plan<T, A>()
-    ensures { (test : T → Bool) (plan : Plan T A) (ds : List (Did T A)) → AllTasks (λ t. IsTrue (test t)) plan → GoBy (begun plan) ds → AreOf (λ t. IsTrue (test t)) ds }
+    ensures { (test : T → Bool) (plan : Plan T A) (ds : List (Did T A)) → AllTasks (λ t. IsTrue (test t)) plan → GoBy (begun plan) ds
+        → AreOf (λ t. IsTrue (test t)) ds }
 {}
 
 /// The same where answers are known to be such as they should be: so a fact of all answers of a run is one of all tasks that follow from
 /// them.
 pub fn tasks_are_of_plan_if<T, A>()
-    ensures { (good : T → A → Bool) (test : T → Bool) (plan : Plan T A) (ds : List (Did T A)) → AllTasksIf (λ t a. IsTrue (good t a)) (λ t. IsTrue (test t)) plan → GoBy (begun plan) ds → AreAnswered (λ t a. IsTrue (good t a)) (λ a. IsTrue false) ds → AreOf (λ t. IsTrue (test t)) ds }
+    ensures { (good : T → A → Bool) (test : T → Bool) (plan : Plan T A) (ds : List (Did T A))
+        → AllTasksIf (λ t a. IsTrue (good t a)) (λ t. IsTrue (test t)) plan → GoBy (begun plan) ds
+        → AreAnswered (λ t a. IsTrue (good t a)) (λ a. IsTrue false) ds → AreOf (λ t. IsTrue (test t)) ds }
 {}

@@ -69,7 +69,8 @@ fn kind_word(kind: Kind) -> &'static str
 
 /// Whether a column has a domain other than the default.
 fn has_check(column: &Column) -> bool
-    ensures { tokens.check_rule column.now.kind column.now.name column.now.lo column.now.hi ≡ (if result then tokens.check column.now.name column.now.lo column.now.hi else []) }
+    ensures { tokens.check_rule column.now.kind column.now.name column.now.lo column.now.hi
+        ≡ (if result then tokens.check column.now.name column.now.lo column.now.hi else []) }
 {
     match column.kind {
         Kind::Num => !(column.lo <= LOW_DEFAULT && HIGH_DEFAULT <= column.hi),

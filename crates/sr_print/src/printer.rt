@@ -105,7 +105,8 @@ impl Printer {
 
     /// A token; `close` says that no blank stands before it, and `tight` that none stands behind it.
     fn put(&mut self, close: bool, token: &str, tight: bool) -> Result<(), NoMemory>
-        ensures { OnOk result (self.new ≡ record { text = self.old.text ++ ((if self.old.tight || close then [] else codes " ") ++ token.now); tight = tight }) }
+        ensures { OnOk result (self.new
+            ≡ record { text = self.old.text ++ ((if self.old.tight || close then [] else codes " ") ++ token.now); tight = tight }) }
     {
         self.blank(close)?;
         self.text.push_str(token)?;

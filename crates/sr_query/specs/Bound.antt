@@ -31,7 +31,8 @@ abbrev pub EndsWithTests : ℕ → List Column → Cond → Rect → Type 0
 EndsWithTests c [] condition r = Unit {0}
 EndsWithTests c (column ∷ columns) condition [] = Unit {0}
 EndsWithTests c (column ∷ columns) condition (s ∷ r) =
-    ((v : Cell) → has_cut column.kind column.lo column.hi column.nullable s v ≡ true → is_among (ends c condition) v ≡ true) × EndsWithTests (c + 1) columns condition r
+    ((v : Cell) → has_cut column.kind column.lo column.hi column.nullable s v ≡ true → is_among (ends c condition) v ≡ true)
+    × EndsWithTests (c + 1) columns condition r
 
 -- Rects of a table with just the points for which the condition is true, no more of them than the condition is wide.
 pub record AreRectsOf (columns : List Column) (condition : Cond) (rects : List Rect) : Type 0 where

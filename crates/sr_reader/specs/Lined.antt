@@ -46,7 +46,8 @@ is_create (EventLine words) = false
 -- a line of this number is none that is outside the grammar, where the script stands
 abbrev pub GoesOn : ℕ → List ℕ → Bool → Line → Type 0
 GoesOn clients text running line =
-    (i : ℕ) (later : Stage → Option LinePlace) → outside_from i later (stage_by running) (line_of clients text) ≡ later (stage_by (running || is_event (line_seen line)))
+    (i : ℕ) (later : Stage → Option LinePlace)
+    → outside_from i later (stage_by running) (line_of clients text) ≡ later (stage_by (running || is_event (line_seen line)))
 
 -- a line is outside the grammar, where the script stands
 abbrev pub StopsAt : ℕ → List ℕ → Bool → ℕ → Type 0

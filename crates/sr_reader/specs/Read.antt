@@ -31,7 +31,8 @@ statement_of (Err fault) = Err fault
 -- a bound query, or the fault of its text, stands for this one
 abbrev pub Means : List Table → Result Query Fault → Result model.Query Fault → Type 0
 Means tables (Ok q) (Ok meaning) =
-    IsQuery tables q meaning × IsTrue (is_joined tables meaning) × (length meaning.parts ≤ 4) × IsTrue (is_sound tables meaning) × IsTrue (needs_own tables meaning)
+    IsQuery tables q meaning × IsTrue (is_joined tables meaning) × (length meaning.parts ≤ 4) × IsTrue (is_sound tables meaning)
+    × IsTrue (needs_own tables meaning)
 Means tables (Ok q) (Err fault) = ⊥
 Means tables (Err fault) (Ok meaning) = ⊥
 Means tables (Err fault) (Err same) = fault ≡ same

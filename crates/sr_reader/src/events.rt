@@ -88,8 +88,10 @@ pub fn read_events(
     lines: &Lines<'_>,
 ) -> Result<EventLines, NoMemory>
     requires tables { IsTrue (list_all is_table schema.now) }
-    ensures read { (clients : ℕ) (bytes : List ℕ) → AreOf clients bytes schema.now lines.now → IfOk result (λ events. IsRead clients bytes (record { schema = schema.now; lines = events })) }
-    ensures fits { (clients : ℕ) (bytes : List ℕ) → AreOf clients bytes schema.now lines.now → IfOk result (λ events. Fits clients (record { schema = schema.now; lines = events })) }
+    ensures read { (clients : ℕ) (bytes : List ℕ) → AreOf clients bytes schema.now lines.now
+        → IfOk result (λ events. IsRead clients bytes (record { schema = schema.now; lines = events })) }
+    ensures fits { (clients : ℕ) (bytes : List ℕ) → AreOf clients bytes schema.now lines.now
+        → IfOk result (λ events. Fits clients (record { schema = schema.now; lines = events })) }
 {
     let mut events = Seq::new(alloc);
     for (i, line) in lines.as_slice().iter().enumerate() {

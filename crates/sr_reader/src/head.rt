@@ -45,8 +45,10 @@ pub fn created(alloc: Global, lines: &Lines<'_>) -> Result<Schema, No<RefusedLin
     requires { (clients : ℕ) × (bytes : List ℕ) × AreLines clients bytes lines.now }
     ensures created { (clients : ℕ) (bytes : List ℕ) → AreLines clients bytes lines.now → IfOk result (Creates clients [] (lines_of bytes)) }
     ensures sound { IfOk result (λ schema. IsTrue (list_all is_table schema)) }
-    ensures accepts { (clients : ℕ) (bytes : List ℕ) → AreLines clients bytes lines.now → OnOk result ((line : ℕ) (fault : TheFault) → FirstRefused clients 1 [] (lines_of bytes) line fault → ⊥) }
-    ensures refused { (clients : ℕ) (bytes : List ℕ) → AreLines clients bytes lines.now → (refused : TheRefusedLine) → IsErrOf result (Refused refused) → FirstRefused clients 1 [] (lines_of bytes) refused.number refused.fault }
+    ensures accepts { (clients : ℕ) (bytes : List ℕ) → AreLines clients bytes lines.now
+        → OnOk result ((line : ℕ) (fault : TheFault) → FirstRefused clients 1 [] (lines_of bytes) line fault → ⊥) }
+    ensures refused { (clients : ℕ) (bytes : List ℕ) → AreLines clients bytes lines.now → (refused : TheRefusedLine)
+        → IsErrOf result (Refused refused) → FirstRefused clients 1 [] (lines_of bytes) refused.number refused.fault }
 {
     let mut schema = Schema::new(alloc);
     for (i, line) in lines.as_slice().iter().enumerate() {

@@ -63,7 +63,8 @@ pub fn read_lines(alloc: Global, clients: u8, bytes: &[u8]) -> Result<Lines<'_>,
     requires { length bytes.now < 2 ^ 32 }
     ensures lines { IfOk result (AreLines clients bytes.now) }
     ensures inside { OnOk result (first_outside clients 1 Creating (lines_of bytes.now) ≡ None) }
-    ensures outside { (fault : TheLinePlace) → IsErrOf result (Refused fault) → first_outside clients 1 Creating (lines_of bytes.now) ≡ Some (place_seen fault) }
+    ensures outside { (fault : TheLinePlace) → IsErrOf result (Refused fault)
+        → first_outside clients 1 Creating (lines_of bytes.now) ≡ Some (place_seen fault) }
 {
     let mut lines = Seq::new(alloc);
     let mut rest = bytes;

@@ -24,11 +24,13 @@ use Rattle.sr_report.specs.Texts.{refused_text, groups_text}
 
 -- No line of a report asks its client to take a message.
 abbrev pub ReportsAsk : Type 0
-ReportsAsk = (id : ℕ) (schema script : List ℕ) (tables : List Table) (ahead : Ahead) → AsksReport id schema script tables ahead → AllTasks IsAskedFor (ahead None)
+ReportsAsk = (id : ℕ) (schema script : List ℕ) (tables : List Table) (ahead : Ahead) → AsksReport id schema script tables ahead
+    → AllTasks IsAskedFor (ahead None)
 
 -- Each query that it asks has at most four parts: as those of a script, so few that over an honest link too many frames never come for one.
 abbrev pub ReportsAskFew : Type 0
-ReportsAskFew = (id : ℕ) (schema script : List ℕ) (tables : List Table) (ahead : Ahead) → AsksReport id schema script tables ahead → AllTasks AsksFew (ahead None)
+ReportsAskFew = (id : ℕ) (schema script : List ℕ) (tables : List Table) (ahead : Ahead) → AsksReport id schema script tables ahead
+    → AllTasks AsksFew (ahead None)
 
 -- ---- what is written
 
@@ -61,6 +63,8 @@ IsRightText tables db id script text = SaysRefusal tables id script text ⊎ Say
 
 -- What goes by the plan of a report, each thing in its place and each step true, as over an honest link, writes right texts alone.
 abbrev pub ReportsAreRight : Type 0 → Type 0
-ReportsAreRight C = (keeps : Bool) (db : Database) (limits : Limits) (c : Client) (ds : List (Done C)) (id : ℕ) (schema script : List ℕ) (tables : List Table) (ahead : Ahead)
-    → AsksReport id schema script tables ahead → AreInPlace tables 0 c ds → GoBy (begun (Next 0 (Do Resumed) ahead)) (dids_of keeps ds) → AreTrueSteps db limits c (steps_in ds)
+ReportsAreRight C = (keeps : Bool) (db : Database) (limits : Limits) (c : Client) (ds : List (Done C)) (id : ℕ) (schema script : List ℕ)
+    (tables : List Table) (ahead : Ahead)
+    → AsksReport id schema script tables ahead → AreInPlace tables 0 c ds → GoBy (begun (Next 0 (Do Resumed) ahead)) (dids_of keeps ds)
+    → AreTrueSteps db limits c (steps_in ds)
     → AllSaid (IsRightText tables db id script) ds

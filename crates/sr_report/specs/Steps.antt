@@ -23,7 +23,8 @@ use Rattle.sr_report.specs.Texts.{refused_text, groups_text}
 abbrev pub IsStepOf : List Table → ℕ → Step → ℕ → Entry → Type 0
 IsStepOf tables id (step.Line line) number (Asks task) = (line.number ≡ number) × IsTask tables line.event task
 IsStepOf tables id (step.Say n text) number (Refused fault) = (n ≡ number) × (string_bytes text ≡ refused_text id number fault)
-IsStepOf tables id (step.Tell line agg) number (Tells query telling) = (line.number ≡ number) × IsTask tables line.event (Do (Queried (Ok query))) × (agg ≡ telling)
+IsStepOf tables id (step.Tell line agg) number (Tells query telling) =
+    (line.number ≡ number) × IsTask tables line.event (Do (Queried (Ok query))) × (agg ≡ telling)
 IsStepOf tables id step number entry = ⊥
 
 abbrev pub IsStep : List Table → ℕ → Step → ℕ × Entry → Type 0

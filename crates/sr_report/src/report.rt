@@ -102,7 +102,8 @@ impl Report {
         requires tables { IsTrue (list_all is_table schema.now) }
         requires lines { (script : List ℕ) × AreReportLines id script schema.now lines }
         ensures plans { (script : List ℕ) → AreReportLines id script schema.now lines
-            → IfOk result (λ report. (entries : List (ℕ × Entry)) × AreEntries schema.now script entries × Follows schema.now report (λ answer. report_plan id entries)) }
+            → IfOk result (λ report. (entries : List (ℕ × Entry)) × AreEntries schema.now script entries
+            × Follows schema.now report (λ answer. report_plan id entries)) }
         ensures few { IfOk result (λ report. jobs_left report ≤ 2 * length lines) }
     {
         let mut steps = Seq::with_room(alloc, lines.len())?;

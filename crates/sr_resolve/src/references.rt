@@ -85,7 +85,8 @@ fn column_of(
     requires { IsTrue (are_known schema.now tables.now) }
     ensures found { IfOk result (λ o. column_of_part schema.now tables.now place column.now (part_named schema.now 0 tables.now table.now) ≡ Ok (output_of o)) }
     ensures within { IfOk result (λ o. IsTrue (is_within schema.now tables.now (output_of o))) }
-    ensures refused { (fault : TheFault) → IsErrOf result fault → column_of_part schema.now tables.now place column.now (part_named schema.now 0 tables.now table.now) ≡ Err fault }
+    ensures refused { (fault : TheFault) → IsErrOf result fault
+        → column_of_part schema.now tables.now place column.now (part_named schema.now 0 tables.now table.now) ≡ Err fault }
 {
     let part = match part_named(schema, tables, table) {
         Some(part) => part,

@@ -26,15 +26,18 @@ trace = codes "3 exec version 1\n4 exec version 2\n5 ask 1 1 fresh 1\n5 part emp
 abbrev pub employees : Table
 employees = record {
   name = codes "emp";
-  columns = record { name = codes "id"; kind = Numbers; lo = pos 0; hi = pos 9999; nullable = false } ∷ record { name = codes "age"; kind = Numbers; lo = pos 0; hi = pos 150; nullable = false }
-      ∷ record { name = codes "name"; kind = Texts; lo = pos 0; hi = pos 0; nullable = false } ∷ record { name = codes "dept"; kind = Numbers; lo = pos 0; hi = pos 99; nullable = false } ∷ [];
+  columns = record { name = codes "id"; kind = Numbers; lo = pos 0; hi = pos 9999; nullable = false }
+      ∷ record { name = codes "age"; kind = Numbers; lo = pos 0; hi = pos 150; nullable = false }
+      ∷ record { name = codes "name"; kind = Texts; lo = pos 0; hi = pos 0; nullable = false }
+      ∷ record { name = codes "dept"; kind = Numbers; lo = pos 0; hi = pos 99; nullable = false } ∷ [];
   key = 0;
 }
 
 abbrev pub departments : Table
 departments = record {
   name = codes "dept";
-  columns = record { name = codes "no"; kind = Numbers; lo = pos 0; hi = pos 99; nullable = false } ∷ record { name = codes "title"; kind = Texts; lo = pos 0; hi = pos 0; nullable = false } ∷ [];
+  columns = record { name = codes "no"; kind = Numbers; lo = pos 0; hi = pos 99; nullable = false }
+      ∷ record { name = codes "title"; kind = Texts; lo = pos 0; hi = pos 0; nullable = false } ∷ [];
   key = 0;
 }
 

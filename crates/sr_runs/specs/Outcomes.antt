@@ -48,4 +48,5 @@ pub record EndsWithOutcome (event : Event) (lines : List TraceLine) : Type 0 whe
 
 -- So it is of each event that happens where each client stands, as it does in each scene of a run.
 abbrev pub EventsEndWithTheirOutcome : Type 0
-EventsEndWithTheirOutcome = (s new : Scene) (event : Event) (report : Report) → SceneStands s → Happens s event report new → EndsWithOutcome event (lines_of event report)
+EventsEndWithTheirOutcome =
+    (s new : Scene) (event : Event) (report : Report) → SceneStands s → Happens s event report new → EndsWithOutcome event (lines_of event report)

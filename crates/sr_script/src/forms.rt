@@ -122,7 +122,8 @@ pub fn push_held(text: &mut String, client: u8) -> Result<(), NoMemory>
 
 /// How the line of a drop begins.
 pub fn push_drop(text: &mut String, client: u8, cause: Cause) -> Result<(), NoMemory>
-    ensures { OnOk result (string_bytes text.new ≡ string_bytes text.old ++ (codes "drop " ++ (decimal client ++ (codes " " ++ (cause_text cause ++ codes " "))))) }
+    ensures { OnOk result (string_bytes text.new
+        ≡ string_bytes text.old ++ (codes "drop " ++ (decimal client ++ (codes " " ++ (cause_text cause ++ codes " "))))) }
 {
     let word = cause_word(cause);
     write!(text, "drop {client} {word} ")?;
@@ -137,7 +138,8 @@ pub fn push_rects_of(
     attrs: Attrs,
     rects: &Rects,
 ) -> Result<(), NoMemory>
-    ensures { OnOk result (string_bytes text.new ≡ string_bytes text.old ++ ended (name_of schema.now table ∷ attrs_of schema.now table attrs ∷ rects_of schema.now table rects.now ∷ [])) }
+    ensures { OnOk result (string_bytes text.new
+        ≡ string_bytes text.old ++ ended (name_of schema.now table ∷ attrs_of schema.now table attrs ∷ rects_of schema.now table rects.now ∷ [])) }
 {
     push_place(text, schema, table, attrs)?;
     text.push(' ')?;
@@ -155,7 +157,9 @@ pub fn push_stamped(
     stamp: u64,
     rects: &Rects,
 ) -> Result<(), NoMemory>
-    ensures { OnOk result (string_bytes text.new ≡ string_bytes text.old ++ ended (name_of schema.now table ∷ attrs_of schema.now table attrs ∷ decimal stamp ∷ rects_of schema.now table rects.now ∷ [])) }
+    ensures { OnOk result (string_bytes text.new
+        ≡ string_bytes text.old
+        ++ ended (name_of schema.now table ∷ attrs_of schema.now table attrs ∷ decimal stamp ∷ rects_of schema.now table rects.now ∷ [])) }
 {
     push_place(text, schema, table, attrs)?;
     write!(text, " {stamp} ")?;

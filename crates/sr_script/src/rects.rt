@@ -120,7 +120,8 @@ fn push_numbers(text: &mut String, name: &str, lo: i64, hi: i64) -> Result<(), N
 }
 
 fn push_texts(text: &mut String, name: &str, lo: &Bytes, hi: &Option<Bytes>) -> Result<(), NoMemory>
-    ensures { OnOk result (string_bytes text.new ≡ string_bytes text.old ++ (name.now ++ (codes " " ++ (bytes_text lo.now ++ (codes ".." ++ bound_text hi.now))))) }
+    ensures { OnOk result (string_bytes text.new
+        ≡ string_bytes text.old ++ (name.now ++ (codes " " ++ (bytes_text lo.now ++ (codes ".." ++ bound_text hi.now))))) }
 {
     text.push_str(name)?;
     text.push(' ')?;

@@ -33,7 +33,8 @@ ValuesAreAmong = (place : ℕ) (rows : List Row) → all_have place (values_at p
 pub record TextsAskParts (schema : List Table) (s : Statement) (q : Query) (tables : Tables) : Type 0 where
   pub left : (rows : List Row) → IsAnswer schema tables (sides_of schema s q).left.text rows → rows ≡ rows_in tables (part_at q 0)
   pub right : (key : Cell) (more : List Cell) (rows : List Row) → list_all is_inside (key ∷ more) ≡ true
-      → IsAnswer schema tables (right_text (sides_of schema s q).right (key ∷ more)) rows → rows ≡ with_keys (sides_of schema s q) (key ∷ more) (rows_in tables (part_at q 1))
+      → IsAnswer schema tables (right_text (sides_of schema s q).right (key ∷ more)) rows
+      → rows ≡ with_keys (sides_of schema s q) (key ∷ more) (rows_in tables (part_at q 1))
 
 -- so they do of each query of two tables
 abbrev pub TextsAsk : Type 0

@@ -17,15 +17,18 @@ use Rattle.sr_semi.specs.Texts.{text_of}
 abbrev pub employees : Table
 employees = record {
   name = codes "emp";
-  columns = record { name = codes "id"; kind = Numbers; lo = pos 0; hi = pos 9999; nullable = false } ∷ record { name = codes "age"; kind = Numbers; lo = pos 0; hi = pos 150; nullable = false }
-      ∷ record { name = codes "name"; kind = Texts; lo = pos 0; hi = pos 0; nullable = false } ∷ record { name = codes "dept"; kind = Numbers; lo = pos 0; hi = pos 99; nullable = false } ∷ [];
+  columns = record { name = codes "id"; kind = Numbers; lo = pos 0; hi = pos 9999; nullable = false }
+      ∷ record { name = codes "age"; kind = Numbers; lo = pos 0; hi = pos 150; nullable = false }
+      ∷ record { name = codes "name"; kind = Texts; lo = pos 0; hi = pos 0; nullable = false }
+      ∷ record { name = codes "dept"; kind = Numbers; lo = pos 0; hi = pos 99; nullable = false } ∷ [];
   key = 0;
 }
 
 abbrev pub departments : Table
 departments = record {
   name = codes "dept";
-  columns = record { name = codes "no"; kind = Numbers; lo = pos 0; hi = pos 99; nullable = false } ∷ record { name = codes "title"; kind = Texts; lo = pos 0; hi = pos 0; nullable = false } ∷ [];
+  columns = record { name = codes "no"; kind = Numbers; lo = pos 0; hi = pos 99; nullable = false }
+      ∷ record { name = codes "title"; kind = Texts; lo = pos 0; hi = pos 0; nullable = false } ∷ [];
   key = 0;
 }
 
@@ -60,9 +63,12 @@ abbrev pub keys : List Cell
 keys = Num (pos 3) ∷ Num (pos 4) ∷ []
 
 pub record Worked : Type 0 where
-  pub first : text_of employees 11 (Test (record { table = Some (codes "emp"); column = codes "age"; place = 0 }) (Between (record { cell = Num (pos 30); place = 0 }) (record { cell = Num (pos 40); place = 0 })) ∷ []) ≡ of_ages
+  pub first : text_of employees 11
+      (Test (record { table = Some (codes "emp"); column = codes "age"; place = 0 })
+      (Between (record { cell = Num (pos 30); place = 0 }) (record { cell = Num (pos 40); place = 0 })) ∷ []) ≡ of_ages
   pub second : step_of join Left 3 lefts ≡ record { next = Run of_keys; stage = Right 3 keys lefts }
-  pub done : step_of join (Right 3 keys lefts) 3 rights ≡ record { next = Joined 3 2 ((Num (pos 1) ∷ Str (codes "ink") ∷ []) ∷ (Num (pos 3) ∷ Str (codes "lab") ∷ []) ∷ []); stage = Over }
+  pub done : step_of join (Right 3 keys lefts) 3 rights
+      ≡ record { next = Joined 3 2 ((Num (pos 1) ∷ Str (codes "ink") ∷ []) ∷ (Num (pos 3) ∷ Str (codes "lab") ∷ []) ∷ []); stage = Over }
   pub again : step_of join (Right 3 keys lefts) 4 rights ≡ record { next = Run of_ages; stage = LeftAgain 4 keys rights }
   pub plain : step_of join (LeftAgain 4 keys rights) 4 (employee 1 35 9 ∷ []) ≡ record { next = Plain; stage = Over }
   pub few : most_keys 3 ≡ 21

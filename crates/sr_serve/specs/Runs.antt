@@ -18,7 +18,8 @@ status_of Unwritten = 4
 -- What was written meanwhile, and what was done over the link, from the loaded tables on: each connection came at this address, and
 -- where any came the versions are sound in the end. It ends as faulty only where a fault of the link is counted, and as unwritten just
 -- where one of the sink is.
-pub record Ran (db : Database) (texts : List (List ℕ)) (address : List ℕ) (count : ℕ) (ending : Ending) (old new : Linking) (before after : Writing) : Type 0 where
+pub record Ran (db : Database) (texts : List (List ℕ)) (address : List ℕ) (count : ℕ) (ending : Ending) (old new : Linking)
+    (before after : Writing) : Type 0 where
   pub written : List ℕ
   pub appended : Appends before.written after.written written
   pub served : Served Gives db texts address count (status_of ending) old new written

@@ -8,4 +8,9 @@ use Rattle.sr_session.specs.Rules.{Basis}
 
 -- answers are the rows on these versions
 abbrev pub basis_of : Database → Limits → Basis
-basis_of db limits = record { schema = db.schema; limits = limits; count = λ v marks. kept (tables_of db v) marks; rows = Some (λ v q. rows_of q (tables_of db v)) }
+basis_of db limits = record {
+  schema = db.schema;
+  limits = limits;
+  count = λ v marks. kept (tables_of db v) marks;
+  rows = Some (λ v q. rows_of q (tables_of db v));
+}

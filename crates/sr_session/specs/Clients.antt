@@ -165,7 +165,8 @@ pub data Stands (db : Database) (pair : Pair) : Type 0 where
 
 -- nothing is out any more, and what was laid by is gone
 abbrev pub answered : Client → List Numbered → Counting → ℕ → List Mark → Client
-answered c queries from version marks = record c { queries = queries; counted_from = from; version = version; out = None; laid = []; marks = with_marks c.marks marks }
+answered c queries from version marks =
+    record c { queries = queries; counted_from = from; version = version; out = None; laid = []; marks = with_marks c.marks marks }
 
 -- the second ask of a query, after a Lapse: all is dropped, and the whole is asked under the next number
 abbrev pub asks_again : Client → ℕ → List Mark → ℕ → Query → List AskPart → Client

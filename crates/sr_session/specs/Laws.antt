@@ -28,7 +28,8 @@ use Rattle.sr_session.specs.Clients.{Client, Connection, Counting, IsOpen, IsOut
 
 -- A version more leaves each client standing: the log and what it drops are no part of what is promised.
 abbrev pub ExecKeeps : Type 0
-ExecKeeps = (db : Database) (tables : Tables) (c : Client) (l : Connection) (session : Session) → 0 < length db.versions → IsOpen db c l session → IsOpen (with_version db tables) c l session
+ExecKeeps = (db : Database) (tables : Tables) (c : Client) (l : Connection) (session : Session) → 0 < length db.versions → IsOpen db c l session
+    → IsOpen (with_version db tables) c l session
 
 -- A push to a client goes on with the promise.
 abbrev pub PushKeeps : Type 0
@@ -38,21 +39,24 @@ PushKeeps = (db : Database) (c : Client) (l : Connection) (session next : Sessio
 
 -- The server takes the ask of a client, fresh or not: what is due, the rows and the reply.
 abbrev pub TakingAsksKeeps : Type 0
-TakingAsksKeeps = (db : Database) (c : Client) (l : Connection) (session next : Session) (number : ℕ) (fresh : Bool) (parts : List AskPart) → IsOpen db c l session
+TakingAsksKeeps = (db : Database) (c : Client) (l : Connection) (session next : Session) (number : ℕ) (fresh : Bool) (parts : List AskPart)
+    → IsOpen db c l session
     → l.to_server ≡ Ask number fresh parts ∷ []
     → (serve db (Some session) (Ask number fresh parts)).session ≡ Some next
     → IsOpen db c (record { to_server = []; to_client = l.to_client ++ (serve db (Some session) (Ask number fresh parts)).sent; session = Some next }) next
 
 -- A message is laid by.
 abbrev pub LayingKeeps : Type 0
-LayingKeeps = (db : Database) (c : Client) (l : Connection) (session : Session) (m : Message) (queue : List Message) (request : Request) → IsOpen db c l session → c.out ≡ Some request
+LayingKeeps = (db : Database) (c : Client) (l : Connection) (session : Session) (m : Message) (queue : List Message) (request : Request)
+    → IsOpen db c l session → c.out ≡ Some request
     → AreLaid (m ∷ []) → l.to_client ≡ m ∷ queue → IsOpen db (lays_by c m) (record l { to_client = queue }) session
 
 -- ---- a reply
 
 -- What is known where the reply of an ask comes: the mirror behind the laid messages has the reply's version, and the rows that
 -- came are those of that version.
-pub record IsAnswerable (db : Database) (c : Client) (queue : List Message) (session : Session) (number query : ℕ) (meaning : Query) (fresh : Bool) (parts : List AskPart) (k w : ℕ) : Type 0 where
+pub record IsAnswerable (db : Database) (c : Client) (queue : List Message) (session : Session) (number query : ℕ) (meaning : Query) (fresh : Bool)
+    (parts : List AskPart) (k w : ℕ) : Type 0 where
   pub out : IsOut db.schema c (AskOut number query meaning fresh parts)
   pub passes : Passes db (Some (AskOut number query meaning fresh parts)) (mirror_of c) c.laid
   pub number_is : k ≡ number
@@ -63,25 +67,30 @@ pub record IsAnswerable (db : Database) (c : Client) (queue : List Message) (ses
 
 -- Where a reply comes first, it is of the ask that is out.
 abbrev pub RepliesAreAnswerable : Type 0
-RepliesAreAnswerable = (db : Database) (c : Client) (l : Connection) (session : Session) (queue : List Message) (number query : ℕ) (meaning : Query) (fresh : Bool) (parts : List AskPart) (k w : ℕ)
+RepliesAreAnswerable = (db : Database) (c : Client) (l : Connection) (session : Session) (queue : List Message) (number query : ℕ) (meaning : Query)
+    (fresh : Bool) (parts : List AskPart) (k w : ℕ)
     → IsOpen db c l session → c.out ≡ Some (AskOut number query meaning fresh parts) → l.to_client ≡ Reply k w ∷ queue
     → IsAnswerable db c queue session number query meaning fresh parts k w
 
 -- The rows that were laid by are then those that are asked, part by part.
 abbrev pub RowsAreAsked : Type 0
-RowsAreAsked = (db : Database) (c : Client) (queue : List Message) (session : Session) (number query : ℕ) (meaning : Query) (fresh : Bool) (parts : List AskPart) (k w : ℕ) (i : ℕ) (ask : AskPart)
-    → IsAnswerable db c queue session number query meaning fresh parts k w → slice_get parts i ≡ Some ask → arrived_at i c.laid ≡ asked_rows (tables_of db w) ask
+RowsAreAsked = (db : Database) (c : Client) (queue : List Message) (session : Session) (number query : ℕ) (meaning : Query) (fresh : Bool)
+    (parts : List AskPart) (k w : ℕ) (i : ℕ) (ask : AskPart)
+    → IsAnswerable db c queue session number query meaning fresh parts k w → slice_get parts i ≡ Some ask
+    → arrived_at i c.laid ≡ asked_rows (tables_of db w) ask
 
 -- After the answer, whatever marks came, what is held is at most what was held and what was asked.
 abbrev pub AnsweringKeeps : Type 0
-AnsweringKeeps = (db : Database) (c : Client) (l : Connection) (session : Session) (queue : List Message) (number query : ℕ) (meaning : Query) (fresh : Bool) (parts : List AskPart) (k w : ℕ) (from : Counting) (queries : List Numbered) (marks : List Mark)
+AnsweringKeeps = (db : Database) (c : Client) (l : Connection) (session : Session) (queue : List Message) (number query : ℕ) (meaning : Query)
+    (fresh : Bool) (parts : List AskPart) (k w : ℕ) (from : Counting) (queries : List Numbered) (marks : List Mark)
     → IsOpen db c l session → c.out ≡ Some (AskOut number query meaning fresh parts) → l.to_client ≡ Reply k w ∷ queue
     → Within db.schema (held (with_marks c.marks marks)) (places_after fresh (walked (mirror_of c) c.laid).lapsed parts (walked (mirror_of c) c.laid).places)
     → IsOpen db (answered c queries from w marks) (record l { to_client = queue }) session
 
 -- A Lapse was laid by under an ask that is not fresh: the second ask goes out, and nothing that is on its way contradicts it.
 abbrev pub AskingAgainKeeps : Type 0
-AskingAgainKeeps = (db : Database) (c : Client) (l : Connection) (session : Session) (queue : List Message) (number query : ℕ) (meaning : Query) (parts : List AskPart) (k w : ℕ) (drops : List Mark) (whole : List AskPart)
+AskingAgainKeeps = (db : Database) (c : Client) (l : Connection) (session : Session) (queue : List Message) (number query : ℕ) (meaning : Query)
+    (parts : List AskPart) (k w : ℕ) (drops : List Mark) (whole : List AskPart)
     → IsOpen db c l session → c.out ≡ Some (AskOut number query meaning false parts) → l.to_client ≡ Reply k w ∷ queue
     → (walked (mirror_of c) c.laid).lapsed ≡ true
     → HoldsNothing db.schema (with_marks c.marks drops) → Asks db.schema (with_marks c.marks drops) meaning.parts whole → (whole ≡ [] → ⊥)
@@ -115,7 +124,8 @@ pub record IsSound (db : Database) : Type 0 where
 
 -- A message that is promised has the right direction, state, number and version.
 abbrev pub PromisesFit : Type 0
-PromisesFit = (db : Database) (c : Client) (l : Connection) (session : Session) (m : Message) (queue : List Message) → IsOpen db c l session → l.to_client ≡ m ∷ queue
+PromisesFit = (db : Database) (c : Client) (l : Connection) (session : Session) (m : Message) (queue : List Message) → IsOpen db c l session
+    → l.to_client ≡ m ∷ queue
     → IsShapely (misfit db.schema c.out c.laid c.version m)
 
 -- the key is asked
@@ -124,8 +134,10 @@ AsksKey schema ask = has_column ask.attrs (table_at schema ask.table).key ≡ tr
 
 -- Promised rows fit the asked columns, lie in the asked rects, and ascend by part and key over all messages.
 abbrev pub PromisedRowsSuit : Type 0
-PromisedRowsSuit = (db : Database) (c : Client) (l : Connection) (session : Session) (queue : List Message) (number query : ℕ) (meaning : Query) (fresh : Bool) (parts : List AskPart) (k part : ℕ) (rows : List Row)
-    → IsSound db → All (AsksKey db.schema) parts → IsOpen db c l session → c.out ≡ Some (AskOut number query meaning fresh parts) → l.to_client ≡ Rows k part rows ∷ queue
+PromisedRowsSuit = (db : Database) (c : Client) (l : Connection) (session : Session) (queue : List Message) (number query : ℕ) (meaning : Query)
+    (fresh : Bool) (parts : List AskPart) (k part : ℕ) (rows : List Row)
+    → IsSound db → All (AsksKey db.schema) parts → IsOpen db c l session → c.out ≡ Some (AskOut number query meaning fresh parts)
+    → l.to_client ≡ Rows k part rows ∷ queue
     → rows_suit db.schema parts c.laid part rows ≡ true
 
 -- Promised tells are of tables of the schema, fit them, and ascend by table and key.

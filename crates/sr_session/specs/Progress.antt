@@ -29,7 +29,8 @@ QueriesAreAnsweredOrAsked = (b : Basis) (c new : Client) (q : Query) (o : Outcom
 -- It is answered under this number; or, where it was not asked afresh, it is asked once more, afresh.
 abbrev pub IsAnsweredOrAskedAfresh : ℕ → Query → Bool → Outcome → Client → Type 0
 IsAnsweredOrAskedAfresh number q fresh (Answered query version rows marks) new = query ≡ number
-IsAnsweredOrAskedAfresh number q fresh (AskSent drops request again parts) new = (fresh ≡ false) × (again ≡ true) × (new.out ≡ Some (AskOut request number q true parts))
+IsAnsweredOrAskedAfresh number q fresh (AskSent drops request again parts) new =
+    (fresh ≡ false) × (again ≡ true) × (new.out ≡ Some (AskOut request number q true parts))
 IsAnsweredOrAskedAfresh number q fresh other new = ⊥
 
 -- The reply of an ask answers its query in the same step, or the query is asked once more. The reply of an ask that is fresh answers it, so
@@ -60,7 +61,8 @@ DropsNoPieces o = list_all (λ mark. not (drops_pieces mark)) (marks_of o) ≡ t
 -- Where the load is not too high, counting the query, nothing is dropped for its pieces.
 abbrev pub LightQueriesKeepTheirPieces : Type 0
 LightQueriesKeepTheirPieces = (b : Basis) (c new : Client) (q : Query) (o : Outcome)
-    → (IsHeavy b.schema c.marks [] q (counted c.counted_from (with_query q true c)) → ⊥) → (IsHeavy b.schema c.marks [] q (counted c.counted_from (with_query q false c)) → ⊥)
+    → (IsHeavy b.schema c.marks [] q (counted c.counted_from (with_query q true c)) → ⊥)
+    → (IsHeavy b.schema c.marks [] q (counted c.counted_from (with_query q false c)) → ⊥)
     → QueryStep b c (Ok q) o new → DropsNoPieces o
 
 -- Nor at the reply of its ask, counting what was asked.

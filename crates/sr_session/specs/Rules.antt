@@ -150,7 +150,8 @@ pub record DropsFirst (b : Basis) (q : Query) (c : Client) (drops : List Mark) :
 -- the client by whose marks a query asks
 pub data Before (b : Basis) (q : Query) (c : Client) : List Mark → Client → Type 0 where
   as_it_is : Before b q c [] c
-  emptied : (drops : List Mark) → DropsFirst b q c drops → Before b q c drops (record c { marks = with_marks c.marks drops; counted_from = from_query (next_query c) })
+  emptied : (drops : List Mark) → DropsFirst b q c drops
+      → Before b q c drops (record c { marks = with_marks c.marks drops; counted_from = from_query (next_query c) })
 
 -- one request asks all that has to be asked
 abbrev pub with_ask : Client → Query → Bool → List AskPart → Client

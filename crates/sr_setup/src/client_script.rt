@@ -85,7 +85,8 @@ pub fn client_events(
 ) -> Result<EventLines, NoMemory>
     requires tables { IsTrue (list_all is_table schema.now) }
     requires lines { (script : List ℕ) × AreLines most_clients script lines.now × (first_fault (client_fault id) 1 (lines_of script) ≡ None) }
-    ensures asked { (script : List ℕ) → AreLines most_clients script lines.now → first_fault (client_fault id) 1 (lines_of script) ≡ None → IfOk result (AreAsked id script schema.now) }
+    ensures asked { (script : List ℕ) → AreLines most_clients script lines.now → first_fault (client_fault id) 1 (lines_of script) ≡ None
+        → IfOk result (AreAsked id script schema.now) }
 {
     let mut events = Seq::new(alloc);
     for (i, line) in lines.as_slice().iter().enumerate() {

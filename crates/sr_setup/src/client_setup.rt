@@ -131,8 +131,10 @@ pub fn set_up_client(
     requires script { length script.now < 2 ^ 32 }
     ensures asked { IfOk result (λ read. IsAsked id schema.now script.now read.schema read.lines) }
     ensures tables { IfOk result (λ read. IsTrue (list_all is_table read.schema)) }
-    ensures line { (line place : ℕ) → IsErrOf result (Refused (Line line place)) → client_outside id schema.now script.now ≡ Some (record { line = line; place = place }) }
-    ensures line_first { (at : TheLinePlace) → client_outside id schema.now script.now ≡ Some at → IsErrOf result (Refused (Line at.line at.place)) ⊎ IsErrOf result Wanting }
+    ensures line { (line place : ℕ) → IsErrOf result (Refused (Line line place))
+        → client_outside id schema.now script.now ≡ Some (record { line = line; place = place }) }
+    ensures line_first { (at : TheLinePlace) → client_outside id schema.now script.now ≡ Some at
+        → IsErrOf result (Refused (Line at.line at.place)) ⊎ IsErrOf result Wanting }
     ensures create { (line : ℕ) (fault : TheFault) → IsErrOf result (Refused (Create line fault)) → ClientRefuses id schema.now script.now line fault }
 {
     let Prepared { schema, lines } = match prepare::<ScriptLine<'_>>(alloc, id, schema, script) {

@@ -79,10 +79,13 @@ fn judge<'a>(alloc: Global, schema: &'a [u8], exec: &[u8]) -> Result<Judged<'a>,
 fn fill_tables(alloc: Global, lines: &Lines<'_>, loads: &[Load]) -> Result<Tables, No<SetupFault>>
     requires lines { (schema : List ℕ) × AreLines most_clients schema lines.now }
     requires loads { IsTrue (list_all (λ load. nat_lt (length load.bytes) (2 ^ 32)) loads.now) }
-    ensures created { (schema : List ℕ) → AreLines most_clients schema lines.now → IfOk result (λ tables. Creates most_clients [] (lines_of schema) tables.schema) }
-    ensures accepts { (schema : List ℕ) → AreLines most_clients schema lines.now → OnOk result ((line : ℕ) (fault : TheFault) → FirstRefused most_clients 1 [] (lines_of schema) line fault → ⊥) }
+    ensures created { (schema : List ℕ) → AreLines most_clients schema lines.now
+        → IfOk result (λ tables. Creates most_clients [] (lines_of schema) tables.schema) }
+    ensures accepts { (schema : List ℕ) → AreLines most_clients schema lines.now
+        → OnOk result ((line : ℕ) (fault : TheFault) → FirstRefused most_clients 1 [] (lines_of schema) line fault → ⊥) }
     ensures filled { IfOk result (λ tables. filled tables.schema loads.now (no_rows tables.schema) ≡ Ok tables.rows) }
-    ensures refused { (schema : List ℕ) → AreLines most_clients schema lines.now → (fault : TheSetupFault) → IsErrOf result (Refused fault) → IsRefusal schema loads.now fault }
+    ensures refused { (schema : List ℕ) → AreLines most_clients schema lines.now → (fault : TheSetupFault) → IsErrOf result (Refused fault)
+        → IsRefusal schema loads.now fault }
 {
     let schema = match created(alloc, lines) {
         Ok(schema) => schema,
@@ -117,9 +120,11 @@ pub fn set_up(
     ensures sets_up { IfOk result (λ setup. SetsUp schema.now exec.now loads.now setup.tables setup.statements) }
     ensures few { IfOk result (λ setup. length setup.statements < 2 ^ 32) }
     ensures line { (line place : ℕ) → IsErrOf result (Refused (Line line place)) → outside schema.now exec.now ≡ Some (record { line = line; place = place }) }
-    ensures line_first { (at : TheLinePlace) → outside schema.now exec.now ≡ Some at → IsErrOf result (Refused (Line at.line at.place)) ⊎ IsErrOf result Wanting }
+    ensures line_first { (at : TheLinePlace) → outside schema.now exec.now ≡ Some at
+        → IsErrOf result (Refused (Line at.line at.place)) ⊎ IsErrOf result Wanting }
     ensures create { (line : ℕ) (fault : TheFault) → IsErrOf result (Refused (Create line fault)) → RefusesCreate schema.now exec.now line fault }
-    ensures load { (table : List ℕ) (fault : TheFault) → IsErrOf result (Refused (LoadRefused table fault)) → RefusesLoad schema.now exec.now loads.now table fault }
+    ensures load { (table : List ℕ) (fault : TheFault) → IsErrOf result (Refused (LoadRefused table fault))
+        → RefusesLoad schema.now exec.now loads.now table fault }
 {
     let judged = match judge(alloc, schema, exec) {
         Ok(judged) => judged,

@@ -87,7 +87,10 @@ fn enclosed_check(alloc: Global, cursor: &mut Cursor) -> Result<Check, Stop>
 /// Reads a word, if it comes next and may stand there: its place.
 fn may(cursor: &mut Cursor, left: bool, word: &str) -> Option<u32>
     requires { IsTrue (is_reserved (upper word.now)) }
-    ensures { MatchOption result ((next_is (grammar.may left (upper word.now)) cursor.old ≡ false) × (cursor.new ≡ cursor.old)) (λ at. (next_is (grammar.may left (upper word.now)) cursor.old ≡ true) × (grammar.key (upper word.now) cursor.old ≡ Got at cursor.new)) }
+    ensures { MatchOption result
+        ((next_is (grammar.may left (upper word.now)) cursor.old ≡ false)
+        × (cursor.new ≡ cursor.old)) (λ at. (next_is (grammar.may left (upper word.now)) cursor.old ≡ true)
+        × (grammar.key (upper word.now) cursor.old ≡ Got at cursor.new)) }
 {
     if left { cursor.maybe_word(word) } else { None }
 }

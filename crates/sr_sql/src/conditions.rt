@@ -143,7 +143,9 @@ fn null_test(cursor: &mut Cursor) -> Result<Atom, Stop>
 
 /// What is said behind a NOT.
 fn denied(alloc: Global, cursor: &mut Cursor) -> Result<Atom, Stop>
-    ensures { Reads (λ a. a) (branch (is Key (codes "BETWEEN")) (grammar.between atoms.NotBetween) (branch (is Key (codes "IN")) (grammar.in_list atoms.NotOneOf) (grammar.like atoms.NotPrefix))) cursor.old result cursor.new }
+    ensures { Reads (λ a. a)
+        (branch (is Key (codes "BETWEEN")) (grammar.between atoms.NotBetween)
+        (branch (is Key (codes "IN")) (grammar.in_list atoms.NotOneOf) (grammar.like atoms.NotPrefix))) cursor.old result cursor.new }
 {
     if cursor.is_word("BETWEEN") {
         return between(alloc, cursor, true);

@@ -161,7 +161,9 @@ impl<'a> Cursor<'a> {
     /// Reads this reserved word, if it comes next: its place.
     pub(crate) fn maybe_word(&mut self, word: &str) -> Option<u32>
         requires { IsTrue (is_reserved (upper word.now)) }
-        ensures { MatchOption result ((next_is (is Key (upper word.now)) self.old ≡ false) × (self.new ≡ self.old)) (λ at. (next_is (is Key (upper word.now)) self.old ≡ true) × (one (place_of Key (upper word.now)) self.old ≡ Got at self.new)) }
+        ensures { MatchOption result
+            ((next_is (is Key (upper word.now)) self.old ≡ false) × (self.new ≡ self.old)) (λ at. (next_is (is Key (upper word.now)) self.old ≡ true)
+            × (one (place_of Key (upper word.now)) self.old ≡ Got at self.new)) }
     {
         match self.next {
             Next::Item(item) if is_key(item, word) => {
@@ -174,7 +176,9 @@ impl<'a> Cursor<'a> {
 
     /// Reads this mark, if it comes next: its place.
     pub(crate) fn maybe_mark(&mut self, mark: &str) -> Option<u32>
-        ensures { MatchOption result ((next_is (is Mark mark.now) self.old ≡ false) × (self.new ≡ self.old)) (λ at. (next_is (is Mark mark.now) self.old ≡ true) × (one (place_of Mark mark.now) self.old ≡ Got at self.new)) }
+        ensures { MatchOption result
+            ((next_is (is Mark mark.now) self.old ≡ false) × (self.new ≡ self.old)) (λ at. (next_is (is Mark mark.now) self.old ≡ true)
+            × (one (place_of Mark mark.now) self.old ≡ Got at self.new)) }
     {
         match self.next {
             Next::Item(item) if is_mark(item, mark) => {

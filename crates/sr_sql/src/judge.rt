@@ -125,7 +125,8 @@ fn first_key(columns: &[Definition]) -> usize
 
 /// The domain of a column: that of its CHECK, or the default; texts have none.
 fn domain(column: &Definition) -> Ends
-    ensures { column_of column.now ≡ record { name = column.now.name; kind = column.now.kind; lo = result.lo; hi = result.hi; nullable = is_nullable column.now } }
+    ensures { column_of column.now
+        ≡ record { name = column.now.name; kind = column.now.kind; lo = result.lo; hi = result.hi; nullable = is_nullable column.now } }
 {
     for rule in column.rules.as_slice() {
         match rule {

@@ -80,7 +80,9 @@ fn listed(alloc: Global, cursor: &mut Cursor) -> Result<Shown, Stop>
 
 /// JOIN, with INNER in front of it or without.
 fn join_word(cursor: &mut Cursor) -> Result<u32, Stop>
-    ensures { Reads (λ at. at) (branch (is Key (codes "INNER")) (and_then (grammar.key (codes "INNER")) (λ _. grammar.key (codes "JOIN"))) (grammar.key (codes "JOIN"))) cursor.old result cursor.new }
+    ensures { Reads (λ at. at)
+        (branch (is Key (codes "INNER")) (and_then (grammar.key (codes "INNER")) (λ _. grammar.key (codes "JOIN")))
+        (grammar.key (codes "JOIN"))) cursor.old result cursor.new }
 {
     if cursor.is_word("INNER") {
         cursor.word("INNER")?;

@@ -99,10 +99,12 @@ fn update_in(
     requires keyed { AllZip IsKeyed schema.now all.old.items }
     requires few { IsTrue (are_few (rows_in all.old.items)) }
     requires suits { IsTrue (suits schema.now (Update table (map place_of sets.now) (condition_of filter.now.condition))) }
-    ensures done { OnOk result (executed schema.now (Update table (map place_of sets.now) (condition_of filter.now.condition)) (rows_in all.old.items) ≡ Ok (rows_in all.new.items)) }
+    ensures done { OnOk result
+        (executed schema.now (Update table (map place_of sets.now) (condition_of filter.now.condition)) (rows_in all.old.items) ≡ Ok (rows_in all.new.items)) }
     ensures changes { IfOk result (λ made. made ≡ changes schema.now (rows_in all.old.items) (rows_in all.new.items)) }
     ensures few { IfOk result (λ made. length made ≤ 10000) }
-    ensures refused { (fault : TheFault) → IsErrOf result (Refused fault) → executed schema.now (Update table (map place_of sets.now) (condition_of filter.now.condition)) (rows_in all.old.items) ≡ Err fault }
+    ensures refused { (fault : TheFault) → IsErrOf result (Refused fault)
+        → executed schema.now (Update table (map place_of sets.now) (condition_of filter.now.condition)) (rows_in all.old.items) ≡ Err fault }
     ensures unchanged { OnErr result (all.new.items ≡ all.old.items) }
     ensures keyed { AllZip IsKeyed schema.now all.new.items }
 {
@@ -132,7 +134,8 @@ fn delete_from(
     ensures done { OnOk result (executed schema.now (Delete table (condition_of filter.now.condition)) (rows_in all.old.items) ≡ Ok (rows_in all.new.items)) }
     ensures changes { IfOk result (λ made. made ≡ changes schema.now (rows_in all.old.items) (rows_in all.new.items)) }
     ensures few { IfOk result (λ made. length made ≤ 10000) }
-    ensures refused { (fault : TheFault) → IsErrOf result (Refused fault) → executed schema.now (Delete table (condition_of filter.now.condition)) (rows_in all.old.items) ≡ Err fault }
+    ensures refused { (fault : TheFault) → IsErrOf result (Refused fault)
+        → executed schema.now (Delete table (condition_of filter.now.condition)) (rows_in all.old.items) ≡ Err fault }
     ensures unchanged { OnErr result (all.new.items ≡ all.old.items) }
     ensures keyed { AllZip IsKeyed schema.now all.new.items }
 {

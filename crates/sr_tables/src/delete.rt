@@ -45,7 +45,8 @@ fn changes_among(
     rows: &[&Row],
     wanted: &Filter,
 ) -> Result<Changes, NoMemory>
-    ensures { IfOk result (λ changes. changes ≡ map (delete_change number key) (filter (meets (condition_of wanted.now.condition)) (map (λ r. r.now) rows.now))) }
+    ensures { IfOk result (λ changes. changes
+        ≡ map (delete_change number key) (filter (meets (condition_of wanted.now.condition)) (map (λ r. r.now) rows.now))) }
 {
     let mut changes = Seq::new(alloc);
     for i in 0..rows.len() {

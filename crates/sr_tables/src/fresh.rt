@@ -43,7 +43,8 @@ fn add_fresh(
     ensures keyed { OnOk result (IsKeyed table.now fresh.new) }
     ensures apart { OnOk result (is_apart table.now.key fresh.old.rows row ≡ true) }
     ensures faultless { OnOk result (fault_of_row table.now number (with_rows table.now.key rows.now.rows fresh.old.rows) row ≡ None) }
-    ensures refused { (fault : TheFault) → IsErrOf result (Refused fault) → fault_of_row table.now number (with_rows table.now.key rows.now.rows fresh.old.rows) row ≡ Some fault }
+    ensures refused { (fault : TheFault) → IsErrOf result (Refused fault)
+        → fault_of_row table.now number (with_rows table.now.key rows.now.rows fresh.old.rows) row ≡ Some fault }
 {
     match row_fault(table, rows, fresh, &row, number) {
         Some(fault) => return Err(No::Refused(fault)),

@@ -71,7 +71,8 @@ fn high_tested(test: &Test, kind: Kind) -> Option<&Cell>
 /// A lower end of the keys, of this kind, of the rows that the condition is true of.
 #[cycle(condition)]
 fn low_end(condition: &Condition, key: usize, kind: Kind) -> Option<&Cell>
-    ensures { (row : TheRow) → is_of kind (cell_at row key) ≡ true → is_true (cell_at row) (cond_of (meant condition.now)) ≡ true → is_from (option_copied result) (cell_at row key) ≡ true }
+    ensures { (row : TheRow) → is_of kind (cell_at row key) ≡ true → is_true (cell_at row) (cond_of (meant condition.now)) ≡ true
+        → is_from (option_copied result) (cell_at row key) ≡ true }
 {
     match condition {
         Condition::Test(_, output, test) => {
@@ -89,7 +90,8 @@ fn low_end(condition: &Condition, key: usize, kind: Kind) -> Option<&Cell>
 /// A lower end of the keys of the rows that an AND of these is true of.
 #[cycle(condition)]
 fn low_of_all(all: &[Condition], key: usize, kind: Kind) -> Option<&Cell>
-    ensures { (row : TheRow) → is_of kind (cell_at row key) ≡ true → is_true (cell_at row) (And (members all.now)) ≡ true → is_from (option_copied result) (cell_at row key) ≡ true }
+    ensures { (row : TheRow) → is_of kind (cell_at row key) ≡ true → is_true (cell_at row) (And (members all.now)) ≡ true
+        → is_from (option_copied result) (cell_at row key) ≡ true }
 {
     first_low(all, key, kind)
 }
@@ -97,7 +99,8 @@ fn low_of_all(all: &[Condition], key: usize, kind: Kind) -> Option<&Cell>
 /// The first lower end of the members of an AND.
 #[cycle(condition)]
 fn first_low(all: &[Condition], key: usize, kind: Kind) -> Option<&Cell>
-    ensures { (row : TheRow) → is_of kind (cell_at row key) ≡ true → all_true (cell_at row) (members all.now) ≡ true → is_from (option_copied result) (cell_at row key) ≡ true }
+    ensures { (row : TheRow) → is_of kind (cell_at row key) ≡ true → all_true (cell_at row) (members all.now) ≡ true
+        → is_from (option_copied result) (cell_at row key) ≡ true }
 {
     for condition in all {
         match low_end(condition, key, kind) {
@@ -111,7 +114,8 @@ fn first_low(all: &[Condition], key: usize, kind: Kind) -> Option<&Cell>
 /// An upper end of the keys, of this kind, of the rows that the condition is true of.
 #[cycle(upper)]
 fn high_end(condition: &Condition, key: usize, kind: Kind) -> Option<&Cell>
-    ensures { (row : TheRow) → is_of kind (cell_at row key) ≡ true → is_true (cell_at row) (cond_of (meant condition.now)) ≡ true → is_up_to (option_copied result) (cell_at row key) ≡ true }
+    ensures { (row : TheRow) → is_of kind (cell_at row key) ≡ true → is_true (cell_at row) (cond_of (meant condition.now)) ≡ true
+        → is_up_to (option_copied result) (cell_at row key) ≡ true }
 {
     match condition {
         Condition::Test(_, output, test) => {
@@ -129,7 +133,8 @@ fn high_end(condition: &Condition, key: usize, kind: Kind) -> Option<&Cell>
 /// An upper end of the keys of the rows that an AND of these is true of.
 #[cycle(upper)]
 fn high_of_all(all: &[Condition], key: usize, kind: Kind) -> Option<&Cell>
-    ensures { (row : TheRow) → is_of kind (cell_at row key) ≡ true → is_true (cell_at row) (And (members all.now)) ≡ true → is_up_to (option_copied result) (cell_at row key) ≡ true }
+    ensures { (row : TheRow) → is_of kind (cell_at row key) ≡ true → is_true (cell_at row) (And (members all.now)) ≡ true
+        → is_up_to (option_copied result) (cell_at row key) ≡ true }
 {
     first_high(all, key, kind)
 }
@@ -137,7 +142,8 @@ fn high_of_all(all: &[Condition], key: usize, kind: Kind) -> Option<&Cell>
 /// The first upper end of the members of an AND.
 #[cycle(upper)]
 fn first_high(all: &[Condition], key: usize, kind: Kind) -> Option<&Cell>
-    ensures { (row : TheRow) → is_of kind (cell_at row key) ≡ true → all_true (cell_at row) (members all.now) ≡ true → is_up_to (option_copied result) (cell_at row key) ≡ true }
+    ensures { (row : TheRow) → is_of kind (cell_at row key) ≡ true → all_true (cell_at row) (members all.now) ≡ true
+        → is_up_to (option_copied result) (cell_at row key) ≡ true }
 {
     for condition in all {
         match high_end(condition, key, kind) {
@@ -151,7 +157,8 @@ fn first_high(all: &[Condition], key: usize, kind: Kind) -> Option<&Cell>
 /// No row of the table that the filter lets through has a lower key.
 pub(crate) fn low_key<'a>(filter: &'a Filter, table: &Table) -> Option<&'a Cell>
     requires { table.now.key < length table.now.columns }
-    ensures { (row : TheRow) → fits_columns table.now.columns row ≡ true → meets (condition_of filter.now.condition) row ≡ true → is_from (option_copied result) (cell_at row table.now.key) ≡ true }
+    ensures { (row : TheRow) → fits_columns table.now.columns row ≡ true → meets (condition_of filter.now.condition) row ≡ true
+        → is_from (option_copied result) (cell_at row table.now.key) ≡ true }
 {
     let key = table.key as usize;
     let columns = table.columns.as_slice();
@@ -164,7 +171,8 @@ pub(crate) fn low_key<'a>(filter: &'a Filter, table: &Table) -> Option<&'a Cell>
 /// No row of the table that the filter lets through has a higher key.
 pub(crate) fn high_key<'a>(filter: &'a Filter, table: &Table) -> Option<&'a Cell>
     requires { table.now.key < length table.now.columns }
-    ensures { (row : TheRow) → fits_columns table.now.columns row ≡ true → meets (condition_of filter.now.condition) row ≡ true → is_up_to (option_copied result) (cell_at row table.now.key) ≡ true }
+    ensures { (row : TheRow) → fits_columns table.now.columns row ≡ true → meets (condition_of filter.now.condition) row ≡ true
+        → is_up_to (option_copied result) (cell_at row table.now.key) ≡ true }
 {
     let key = table.key as usize;
     let columns = table.columns.as_slice();

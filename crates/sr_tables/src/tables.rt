@@ -123,7 +123,8 @@ impl Tables {
         ensures done { OnOk result (done_by self.old.schema (statement_seen statement.now) self.old.rows ≡ Ok self.new.rows) }
         ensures changes { IfOk result (λ made. made ≡ changes self.old.schema self.old.rows self.new.rows) }
         ensures few { IfOk result (λ made. length made ≤ 10000) }
-        ensures refused { (fault : TheFault) → IsErrOf result (Refused fault) → done_by self.old.schema (statement_seen statement.now) self.old.rows ≡ Err fault }
+        ensures refused { (fault : TheFault) → IsErrOf result (Refused fault)
+            → done_by self.old.schema (statement_seen statement.now) self.old.rows ≡ Err fault }
         ensures unchanged { OnErr result (self.new ≡ self.old) }
         ensures schema { self.new.schema ≡ self.old.schema }
     {

@@ -29,7 +29,9 @@ fn changed_row(
     sets: &[Place],
     filter: &Filter,
 ) -> Result<Option<Row>, NoMemory>
-    ensures { IfOk result (λ new. new ≡ (if is_changed (map place_of sets.now) (condition_of filter.now.condition) row.now then Some (updated_row (map place_of sets.now) (condition_of filter.now.condition) row.now) else None)) }
+    ensures { IfOk result (λ new. new
+        ≡ (if is_changed (map place_of sets.now) (condition_of filter.now.condition) row.now
+        then Some (updated_row (map place_of sets.now) (condition_of filter.now.condition) row.now) else None)) }
 {
     if !meets(filter, row) {
         return Ok(None);
@@ -51,7 +53,10 @@ fn push_changed(
     sets: &[Place],
     wanted: &Filter,
 ) -> Result<(), NoMemory>
-    ensures { OnOk result (changes.new ≡ changes.old ++ map (update_change number key (map place_of sets.now) (condition_of wanted.now.condition)) (filter (is_changed (map place_of sets.now) (condition_of wanted.now.condition)) (row.now ∷ []))) }
+    ensures { OnOk result (changes.new
+        ≡ changes.old
+        ++ map (update_change number key (map place_of sets.now) (condition_of wanted.now.condition))
+        (filter (is_changed (map place_of sets.now) (condition_of wanted.now.condition)) (row.now ∷ []))) }
 {
     match changed_row(alloc, row, sets, wanted)? {
         Some(after) => changes.push(change_of(alloc, number, key, row, Some(after))?),
@@ -68,7 +73,9 @@ fn changes_among(
     sets: &[Place],
     wanted: &Filter,
 ) -> Result<Changes, NoMemory>
-    ensures { IfOk result (λ changes. changes ≡ map (update_change number key (map place_of sets.now) (condition_of wanted.now.condition)) (filter (is_changed (map place_of sets.now) (condition_of wanted.now.condition)) (map (λ r. r.now) rows.now))) }
+    ensures { IfOk result (λ changes. changes
+        ≡ map (update_change number key (map place_of sets.now) (condition_of wanted.now.condition))
+        (filter (is_changed (map place_of sets.now) (condition_of wanted.now.condition)) (map (λ r. r.now) rows.now))) }
 {
     let mut changes = Seq::new(alloc);
     for i in 0..rows.len() {
@@ -88,7 +95,9 @@ fn update_changes(
 ) -> Result<Changes, NoMemory>
     requires keyed { IsKeyed table.now rows.now }
     requires key { table.now.key < length table.now.columns }
-    ensures { IfOk result (λ changes. changes ≡ map (update_change number table.now.key (map place_of sets.now) (condition_of wanted.now.condition)) (filter (is_changed (map place_of sets.now) (condition_of wanted.now.condition)) rows.now.rows)) }
+    ensures { IfOk result (λ changes. changes
+        ≡ map (update_change number table.now.key (map place_of sets.now) (condition_of wanted.now.condition))
+        (filter (is_changed (map place_of sets.now) (condition_of wanted.now.condition)) rows.now.rows)) }
 {
     let low = low_key(wanted, table);
     let high = high_key(wanted, table);
@@ -130,7 +139,8 @@ pub(crate) fn update(
     ensures done { IfOk result (λ changes. updated table.now (map place_of sets.now) (condition_of filter.now.condition) rows.old.rows ≡ Ok rows.new.rows) }
     ensures changes { IfOk result (λ changes. changes ≡ table_changes table.now number rows.old.rows rows.new.rows) }
     ensures few { IfOk result (λ changes. length changes ≤ 10000) }
-    ensures refused { (fault : TheFault) → IsErrOf result (Refused fault) → updated table.now (map place_of sets.now) (condition_of filter.now.condition) rows.old.rows ≡ Err fault }
+    ensures refused { (fault : TheFault) → IsErrOf result (Refused fault)
+        → updated table.now (map place_of sets.now) (condition_of filter.now.condition) rows.old.rows ≡ Err fault }
     ensures unchanged { OnErr result (rows.new ≡ rows.old) }
     ensures keyed { IsKeyed table.now rows.new }
 {

@@ -132,7 +132,8 @@ pub fn trim(
     ensures points { IfOk result (λ t. AreSame table.now.columns (in_any t.rest) (left_over part.now.rects cover.now)) }
     ensures once { IfOk result (λ t. (p : Row) → IsTrue (is_point table.now.columns p) → times t.rest p ≤ 1) }
     ensures bound { IfOk result (λ t. list_all (constrains_only t.attrs 0) t.rest ≡ true) }
-    ensures columns { IfOk result (λ t. (c : ℕ) → IsTrue (has_column t.attrs c) ↔ (IsTrue (has_column part.now.need c) ⊎ IsEssential table.now.columns (left_over part.now.rects cover.now) c)) }
+    ensures columns { IfOk result (λ t. (c : ℕ)
+        → IsTrue (has_column t.attrs c) ↔ (IsTrue (has_column part.now.need c) ⊎ IsEssential table.now.columns (left_over part.now.rects cover.now) c)) }
     ensures empty { IfOk result (λ t. (t.rest ≡ []) ↔ HasNoPoint table.now.columns (left_over part.now.rects cover.now)) }
     ensures some { IfOk result (λ t. (t.rest ≡ [] → ⊥) → HasPoint table.now.columns (left_over part.now.rects cover.now)) }
     ensures cuts { IfOk result (λ t. AreCutFrom table.now.columns (part.now.rects ++ cover.now) t.rest) }

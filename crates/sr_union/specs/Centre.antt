@@ -89,5 +89,6 @@ middle_at c k r rects = least_low c k r rects +ℤ greatest_high c k r rects
 
 -- two lists of rects with the same points have one centre, where each column has a value
 abbrev pub SameCentre : Type 0
-SameCentre = (columns : List Column) (a b : List Rect) → IsTrue (have_first columns) → IsTrue (list_all (rect_fits columns) a) → IsTrue (list_all (rect_fits columns) b)
+SameCentre = (columns : List Column) (a b : List Rect) → IsTrue (have_first columns) → IsTrue (list_all (rect_fits columns) a)
+    → IsTrue (list_all (rect_fits columns) b)
     → AreSame columns (in_any a) (in_any b) → centre_of columns a ≡ centre_of columns b

@@ -42,7 +42,8 @@ grid (c ∷ cs) rects = (1 + length (distinct (first_cuts c rects))) * grid cs (
 abbrev pub CutsAmong : List Column → Rect → List Rect → Type 0
 CutsAmong [] r rects = Unit {0}
 CutsAmong (c ∷ cs) [] rects = Unit {0}
-CutsAmong (c ∷ cs) (s ∷ r) rects = ((v : Cell) → has_cut c.kind c.lo c.hi c.nullable s v ≡ true → is_among (first_cuts c rects) v ≡ true) × CutsAmong cs r (others rects)
+CutsAmong (c ∷ cs) (s ∷ r) rects =
+    ((v : Cell) → has_cut c.kind c.lo c.hi c.nullable s v ≡ true → is_among (first_cuts c rects) v ≡ true) × CutsAmong cs r (others rects)
 
 -- rects that fit the columns, with cuts among those of the given ones
 abbrev pub AreCutFrom : List Column → List Rect → List Rect → Type 0

@@ -250,8 +250,7 @@ impl<'a> Cursor<'a> {
     {
         let next = self.next;
         match next {
-            Next::Token(token)
-                if token.kind == TokenKind::Word && !is_reserved(token.text) => {
+            Next::Token(token) if token.kind == TokenKind::Word && !is_reserved(token.text) => {
                 Ok(Some(Word {
                     text: lowered(alloc, token.text)?,
                     place: token.place,

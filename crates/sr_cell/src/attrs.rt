@@ -61,7 +61,8 @@ impl Row {
     pub fn project(&self, alloc: Global, attrs: Attrs) -> Result<Row, NoMemory>
         ensures { IfOk result (λ cells. cells ≡ project attrs self.now) }
     {
-        let mut cells = Seq::new(alloc);
+        let room = self.len().min(attrs.0.count_ones() as usize);
+        let mut cells = Seq::with_room(alloc, room)?;
         for (i, cell) in self.as_slice().iter().enumerate() {
             if has_bit(attrs.0, i) {
                 cells.push(cell.copy(alloc)?)?;

@@ -42,7 +42,7 @@ fn cells_of(
     ensures decided { Decides (λ cells. cells) result (cells_of table.now number columns.now (fields_of raw.now)) }
     ensures alike { IfOk result (λ cells. length cells ≡ length columns.now) }
 {
-    let mut cells = Seq::new(alloc);
+    let mut cells = Seq::with_room(alloc, columns.len())?;
     for i in 0..columns.len() {
         match cell_of(alloc, kind_at(table, columns[i]), number, field_at(raw, i)) {
             Ok(cell) => cells.push(cell)?,
@@ -75,7 +75,7 @@ fn cells_in_order(
     requires alike { length cells.now ≡ length columns.now }
     ensures ordered { IfOk result (λ row. row ≡ map (λ c. value_for c columns.now cells.now) (numbers_from 0 table.now.columns)) }
 {
-    let mut row = Seq::new(alloc);
+    let mut row = Seq::with_room(alloc, table.columns.len())?;
     for column in 0..table.columns.len() {
         row.push(value_for(alloc, column as u8, columns, cells)?)?;
     }

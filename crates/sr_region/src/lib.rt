@@ -6,3 +6,4 @@ pub mod halves;
 pub mod inside;
 pub mod laws;
 pub mod region;
+pub mod steps;

@@ -1,5 +1,5 @@
 //! One region: some points of a table, the columns held there, a stamp, and the rows of these points.
-ghost use Rattle.std.specs.Prelude.{◌≡◌, ◌==◌, ◌&&◌, true, false, [], filter, IfOk, OnOk, OnErr, IsTrue};
+ghost use Rattle.std.specs.Prelude.{◌≡◌, ◌+◌, ◌==◌, ◌&&◌, true, false, [], filter, IfOk, OnOk, OnErr, IsTrue};
 ghost use Rattle.std.specs.List.{list_all};
 ghost use Rattle.sr_cell.specs.declared.table.Table.{Table as TheTable};
 ghost use Rattle.sr_cell.specs.Attrs.{includes};
@@ -13,12 +13,14 @@ ghost use Rattle.sr_region.specs.Regions.{rank, is_in, IsRowIn, IsArea, IsRegion
 
 use crate::apply::{change_row, part_in};
 use crate::inside::{RowsIn, rows_inside};
+use crate::steps::Steps;
 use sr_cell::attrs::Attrs;
 use sr_cell::cell::{Cell, Row, Rows};
 use sr_cell::list::{NoMemory, Seq};
 use sr_rows::rows::{put, put_all};
 use sr_union::rects::Rects;
 use std::alloc::Global;
+use std::sync::ledger::Ledger;
 
 /// Some points of a table, the columns that are held there, a stamp, and the rows of these points with the cells of
 /// these columns alone.
@@ -91,6 +93,24 @@ impl Region {
         let place = rank_of(self.attrs, self.key as usize);
         let part = part_in(alloc, self.attrs, &self.rects, after)?;
         change_row(&mut self.rows, place, key, part)
+    }
+
+    /// The same, which is one step, also where there is no memory for it.
+    pub fn apply_counted<L: Ledger>(
+        &mut self,
+        alloc: Global,
+        key: &Cell,
+        after: &Option<Row>,
+        steps: &mut Steps<L>,
+    ) -> Result<(), NoMemory>
+        requires { ascend (rank self.old.attrs self.old.key) self.old.rows ≡ true }
+        ensures applied { OnOk result (self.new ≡ applied key.now after.now self.old) }
+        ensures region { (t : TheTable) → OnOk result (IsRegion t self.old → IsNew t key.now after.now → IsRegion t self.new) }
+        ensures unchanged { OnErr result (self.new ≡ self.old) }
+        ensures counted { steps.new ≡ steps.old + 1 }
+    {
+        steps.tick();
+        self.apply(alloc, key, after)
     }
 
     /// The rows inside of the rects, by key; takes no memory.

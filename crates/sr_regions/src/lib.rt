@@ -5,5 +5,4 @@ pub mod holders;
 mod index;
 pub mod laws;
 pub mod regions;
-pub mod steps;
-pub mod touched;
+mod touched;

@@ -10,12 +10,12 @@ ghost use Rattle.sr_regions.specs.Named.{is_named, may_have, IsReady};
 
 use crate::holders::{Classes, class_of};
 use crate::index::{Index, index_of, with_name};
-use crate::steps::Steps;
-use crate::touched::{apply_counted, holds_key, is_touched};
+use crate::touched::{holds_key, is_touched};
 use sr_cell::cell::Cell;
 use sr_cell::list::{NoMemory, Seq};
 use sr_message::message::Tell;
 use sr_region::region::Region;
+use sr_region::steps::Steps;
 use std::alloc::Global;
 use std::marker::Model;
 use std::sync::ledger::Ledger;
@@ -136,7 +136,7 @@ impl Regions {
             return Ok(());
         }
         self.index = with_name(self.index.take(), alloc, &tell.key, number);
-        apply_counted(&mut self.list[number], alloc, &tell.key, &tell.after, steps)
+        self.list[number].apply_counted(alloc, &tell.key, &tell.after, steps)
     }
 
     /// Tells all regions of a change, in no more steps than it touches regions.

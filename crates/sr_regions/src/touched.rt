@@ -1,35 +1,13 @@
-//! Which regions a change touches, and what it does to one.
-ghost use Rattle.std.specs.Prelude.{◌≡◌, ◌+◌, true, OnOk, OnErr, if◌then◌else◌};
+//! Which regions a change touches.
+ghost use Rattle.std.specs.Prelude.{◌≡◌, true};
 ghost use Rattle.sr_box.specs.Rows.{has_row};
-ghost use Rattle.sr_region.specs.Applied.{applied};
 ghost use Rattle.sr_regions.specs.Touched.{IsByKey, holds_key, is_touched};
 
-use crate::steps::Steps;
 use sr_cell::cell::{Cell, Row};
-use sr_cell::list::NoMemory;
 use sr_message::message::Tell;
 use sr_region::region::{Region, rank_of};
 use sr_rows::rows::has_key_of;
 use sr_union::rects::Rects;
-use std::alloc::Global;
-use std::sync::ledger::Ledger;
-
-/// Applies a change to a region, which is one step.
-pub fn apply_counted<L: Ledger>(
-    region: &mut Region,
-    alloc: Global,
-    key: &Cell,
-    after: &Option<Row>,
-    steps: &mut Steps<L>,
-) -> Result<(), NoMemory>
-    requires { IsByKey region.old }
-    ensures applied { OnOk result (region.new ≡ applied key.now after.now region.old) }
-    ensures unchanged { OnErr result (region.new ≡ region.old) }
-    ensures counted { steps.new ≡ steps.old + 1 }
-{
-    steps.tick();
-    region.apply(alloc, key, after)
-}
 
 /// Whether the region is of the table and has a row of the key.
 pub(crate) fn holds_key(region: &Region, table: u8, key: &Cell) -> bool

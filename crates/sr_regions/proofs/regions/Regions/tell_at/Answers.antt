@@ -44,8 +44,8 @@ invariant_of-self g c =
     = agrees-told c.requires.ready.0 c.self.inside.index c.with_name.result tell now number region there ready.region ready.tell_is more c.with_name.ensures.added agrees in
     let still : AgreesWith order c.with_name.result now = λ n x at. more-names c.self.inside.index c.with_name.result n x more (agrees n x at) in
     either_way c.apply_counted.result c.apply_counted.ensures.applied c.apply_counted.ensures.unchanged
-    (λ applied. subst (λ xs. AgreesWith order c.with_name.result xs) (ap (slice_set now number) (touched tell region yes ∙ sym applied) ∙ ap (λ xs. slice_set xs number c.apply_counted.new.region) (sym c.self.view_is)) told)
-    (λ unchanged. subst (λ xs. AgreesWith order c.with_name.result xs) (sym (set-same now number region there) ∙ ap (slice_set now number) (sym unchanged) ∙ ap (λ xs. slice_set xs number c.apply_counted.new.region) (sym c.self.view_is)) still)
+    (λ applied. subst (λ xs. AgreesWith order c.with_name.result xs) (ap (slice_set now number) (touched tell region yes ∙ sym applied) ∙ ap (λ xs. slice_set xs number c.apply_counted.new.self) (sym c.self.view_is)) told)
+    (λ unchanged. subst (λ xs. AgreesWith order c.with_name.result xs) (sym (set-same now number region there) ∙ ap (slice_set now number) (sym unchanged) ∙ ap (λ xs. slice_set xs number c.apply_counted.new.self) (sym c.self.view_is)) still)
 
 pub returns-clause-told : goal.returns-clause-told
 returns-clause-told g c = λ h there.
@@ -56,7 +56,7 @@ returns-clause-told g c = λ h there.
     let mutable : c.index_mut.result.now ≡ h = read-same items now number c.index_mut.result.now h c.self.view_is c.index_mut.ensures.value there in
     let yes : is_touched c.args.tell.now h ≡ true = subst (λ x. is_touched c.args.tell.now x ≡ true) same (sym c.is_touched.ensures ∙ c.if-not-is_touched.false) in
     on_ok_weaker c.apply_counted.result
-    (λ is. ap (λ xs. slice_set xs number c.apply_counted.new.region) c.self.view_is
+    (λ is. ap (λ xs. slice_set xs number c.apply_counted.new.self) c.self.view_is
     ∙ ap (slice_set now number) (is ∙ ap (applied c.args.tell.now.key c.args.tell.now.after) mutable ∙ sym (touched c.args.tell.now h yes)))
     c.apply_counted.ensures.applied
 

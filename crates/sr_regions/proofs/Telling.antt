@@ -1,5 +1,5 @@
 -- What a tell does to regions, and to what an index names.
-use Rattle.std.proofs.Common.{◌≡◌, ℕ, zero, suc, ◌+◌, ◌<◌, Bool, true, false, cond, not, List, [], ◌∷◌, ◌++◌, length, take, map, refl, sym, ap, subst, ◌∙◌, ⊎_elim, arith, eqb-true}
+use Rattle.std.proofs.Common.{◌≡◌, ℕ, zero, suc, ◌+◌, ◌<◌, ◌≤◌, Bool, true, false, cond, not, List, [], ◌∷◌, ◌++◌, length, take, map, refl, sym, ap, subst, ◌∙◌, ⊎_elim, arith, eqb-true}
 use Rattle.std.specs.Prelude.{Option, Some, None, ◌==◌, filter, slice_get, slice_set, if◌then◌else◌}
 use Rattle.std.specs.List.{list_all, All}
 use Rattle.std.specs.Cmp.{first_so, second_so}
@@ -198,3 +198,14 @@ count-one tell (x ∷ regions) (suc i) g there = go (is_touched tell x) (count-o
 pub count-more : (tell : Tell) (regions : List Region) (i : ℕ) (g : Region) → slice_get regions i ≡ Some g
     → count_touched tell (take (i + 1) regions) ≡ count_touched tell (take i regions) + (if is_touched tell g then 1 else 0)
 count-more tell regions i g there = let next : i + 1 ≡ suc i = omega arith in rw next (count-one tell regions i g there)
+
+-- a tell touches no more of the first regions than of all
+pub count-part : (tell : Tell) (n : ℕ) (regions : List Region) → count_touched tell (take n regions) ≤ count_touched tell regions
+count-part tell zero regions = omega arith
+count-part tell (suc n) [] = omega arith
+count-part tell (suc n) (x ∷ regions) = go (is_touched tell x) (count-part tell n regions)
+  where
+    go : (b : Bool) → count_touched tell (take n regions) ≤ count_touched tell regions
+        → length (cond b (x ∷ filter (is_touched tell) (take n regions)) (filter (is_touched tell) (take n regions))) ≤ length (cond b (x ∷ filter (is_touched tell) regions) (filter (is_touched tell) regions))
+    go true ih = omega (arith, ih)
+    go false ih = ih

@@ -139,7 +139,7 @@ impl Regions {
         self.list[number].apply_counted(alloc, &tell.key, &tell.after, steps)
     }
 
-    /// Tells all regions of a change, in no more steps than it touches regions.
+    /// Tells all regions of a change, in a step for each that it touches.
     fn tell<L: Ledger>(
         &mut self,
         alloc: Global,
@@ -148,7 +148,8 @@ impl Regions {
     ) -> Result<(), NoMemory>
         requires { (schema : List TheTable) × AreTellable schema (tell.now ∷ []) self.old }
         ensures told { OnOk result (self.new ≡ map (told_one tell.now) self.old) }
-        ensures bound { OnOk result (steps.new ≤ steps.old + count_touched tell.now self.old) }
+        ensures counted { OnOk result (steps.new ≡ steps.old + count_touched tell.now self.old) }
+        ensures bound { steps.new ≤ steps.old + count_touched tell.now self.old }
     {
         let candidates = candidates_of(&self.index, alloc, &tell.key)?;
         for number in 0..self.len() {
@@ -158,7 +159,7 @@ impl Regions {
     }
 
     /// What notices do: of each key that is told, the old row is gone from all regions of its table, and the new row is in those
-    /// whose rects have it. Each tell takes no more steps than it touches regions.
+    /// whose rects have it. Each tell takes a step for each region that it touches; when memory ran out, no more.
     pub fn apply_counted<L: Ledger>(
         &mut self,
         alloc: Global,
@@ -167,7 +168,8 @@ impl Regions {
     ) -> Result<(), NoMemory>
         requires { (schema : List TheTable) × AreTellable schema told.now self.old }
         ensures applied { OnOk result (self.new ≡ told_all told.now self.old) }
-        ensures bound { OnOk result (steps.new ≤ steps.old + count_all told.now self.old) }
+        ensures counted { OnOk result (steps.new ≡ steps.old + count_all told.now self.old) }
+        ensures bound { steps.new ≤ steps.old + count_all told.now self.old }
     {
         self.look(alloc, told.len());
         for tell in told {

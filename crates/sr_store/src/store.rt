@@ -237,8 +237,8 @@ impl Store {
         self.apply_counted(alloc, told, &mut steps)
     }
 
-    /// The same, with a count of its steps, each of which applies a change to a region: a change takes no more steps than there are
-    /// regions of its table that have a row with its key or whose rects have its new row.
+    /// The same, with a count of its steps, each of which applies a change to a region: a change takes one for each region of its table
+    /// that has a row with its key or whose rects have its new row. When memory ran out there are no more of them.
     pub fn apply_counted<L: Ledger>(
         &mut self,
         alloc: Global,
@@ -247,7 +247,8 @@ impl Store {
     ) -> Result<(), NoMemory>
         requires { (schema : List TheTable) × IsStore schema self.old.regions × All (IsTellOf schema) told.now }
         ensures applied { OnOk result (self.new ≡ record self.old { regions = map (told_to told.now) self.old.regions }) }
-        ensures bound { OnOk result (steps.new ≤ steps.old + count_all told.now self.old.regions) }
+        ensures counted { OnOk result (steps.new ≡ steps.old + count_all told.now self.old.regions) }
+        ensures bound { steps.new ≤ steps.old + count_all told.now self.old.regions }
         ensures nothing_left { OnErr result (self.new ≡ record self.old { regions = [] }) }
     {
         match self.regions.apply_counted(alloc, told, steps) {

@@ -27,13 +27,13 @@ loop-tell-preserved g c =
     let next : drop i told ≡ tell ∷ rest = next-left told i tell c.loop-tell-test.true c.tell-item.is in
     let tells : All (IsTellOf schema) (tell ∷ rest) = subst (All (IsTellOf schema)) next c.loop-tell.invariant.tellable.1.1 in
     let is : c.tell.new.self ≡ map (told_one tell) old = c.in_ok-tell.ensures.told in
-    let steps = c.in_ok-tell.ensures.bound in
-    let so_far = c.loop-tell.invariant.bound in
+    let steps = c.in_ok-tell.ensures.counted in
+    let so_far = c.loop-tell.invariant.counted in
     let left : count_all rest c.tell.new.self ≡ count_all rest (map (told_one tell) old) = ap (count_all rest) is in
     let all : count_all (drop i told) old ≡ count_touched tell old + count_all rest (map (told_one tell) old) = ap (λ ts. count_all ts old) next in
     record {
       told = ap (told_all rest) is ∙ ap (λ ts. told_all ts old) (sym next) ∙ c.loop-tell.invariant.told;
-      bound = omega (arith, steps, so_far, left, all);
+      counted = omega (arith, steps, so_far, left, all);
       tellable = (
         schema,
         (
@@ -42,3 +42,16 @@ loop-tell-preserved g c =
         ),
       );
     }
+
+pub returns-in_err-tell-clause-bound : goal.returns-in_err-tell-clause-bound
+returns-in_err-tell-clause-bound g c =
+    let told = c.args.told.now in
+    let i = c.loop-tell.tell-index in
+    let tell = c.tell-item.result in
+    let rest = drop (i + 1) told in
+    let old = c.loop-tell.self in
+    let next : drop i told ≡ tell ∷ rest = next-left told i tell c.loop-tell-test.true c.tell-item.is in
+    let steps = c.tell.ensures.bound in
+    let so_far = c.loop-tell.invariant.counted in
+    let all : count_all (drop i told) old ≡ count_touched tell old + count_all rest (map (told_one tell) old) = ap (λ ts. count_all ts old) next in
+    omega (arith, steps, so_far, all)

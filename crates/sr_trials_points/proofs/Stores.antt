@@ -122,11 +122,17 @@ pub first_is : (ps : List Part) (p part : Part) → ps ≡ p ∷ [] → part ≡
 first_is ps p part is at = at ∙ ap (λ qs. get_or qs 0 part) is
 
 -- what is told of one person of the first table
-pub tells_one : (schema : List Table) (told : List Tell) (own age : ℤ) → 0 < length schema → (table_at schema 0).key ≡ 0
-    → is_point (table_at schema 0).columns (Num (pos 1) ∷ Num age ∷ Num (pos 5) ∷ []) ≡ true → own ≡ age
-    → told ≡ record { table = 0; key = Num (pos 1); after = Some (Num (pos 1) ∷ Num own ∷ Num (pos 5) ∷ []) } ∷ [] → All (IsTellOf schema) told
-tells_one schema told own age there key point same is =
-    All-same (IsTellOf schema) told (record { table = 0; key = Num (pos 1); after = Some (Num (pos 1) ∷ Num own ∷ Num (pos 5) ∷ []) } ∷ []) is
-    (All-cons (IsTellOf schema) (record { table = 0; key = Num (pos 1); after = Some (Num (pos 1) ∷ Num own ∷ Num (pos 5) ∷ []) }) []
-    (there, (subst (λ n. is_point (table_at schema 0).columns (Num (pos 1) ∷ Num n ∷ Num (pos 5) ∷ []) ≡ true) (sym same) point, ap (cell_at (Num (pos 1) ∷ Num own ∷ Num (pos 5) ∷ [])) key))
+pub tells_one : (schema : List Table) (told : List Tell) (whose own id age : ℤ) → 0 < length schema → (table_at schema 0).key ≡ 0
+    → is_point (table_at schema 0).columns (Num id ∷ Num age ∷ Num (pos 5) ∷ []) ≡ true → whose ≡ id → own ≡ age
+    → told ≡ record { table = 0; key = Num whose; after = Some (Num whose ∷ Num own ∷ Num (pos 5) ∷ []) } ∷ [] → All (IsTellOf schema) told
+tells_one schema told whose own id age there key point who same is =
+    All-same (IsTellOf schema) told (record { table = 0; key = Num whose; after = Some (Num whose ∷ Num own ∷ Num (pos 5) ∷ []) } ∷ []) is
+    (All-cons (IsTellOf schema) (record { table = 0; key = Num whose; after = Some (Num whose ∷ Num own ∷ Num (pos 5) ∷ []) }) [] (
+      there,
+      (
+        subst (λ n. is_point (table_at schema 0).columns (Num whose ∷ Num n ∷ Num (pos 5) ∷ []) ≡ true) (sym same)
+            (subst (λ n. is_point (table_at schema 0).columns (Num n ∷ Num age ∷ Num (pos 5) ∷ []) ≡ true) (sym who) point),
+        ap (cell_at (Num whose ∷ Num own ∷ Num (pos 5) ∷ [])) key,
+      ),
+    )
     (All-nil (IsTellOf schema)))

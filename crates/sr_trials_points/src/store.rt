@@ -34,6 +34,7 @@ fn table(alloc: Global) -> Result<Table, NoMemory>
     ensures key { IfOk result (λ table. table.key ≡ 0) }
     ensures point { IfOk result (λ table. is_point table.columns (Num (pos 1) ∷ Num (pos 31) ∷ Num (pos 5) ∷ []) ≡ true) }
     ensures old { IfOk result (λ table. is_point table.columns (Num (pos 1) ∷ Num (pos 41) ∷ Num (pos 5) ∷ []) ≡ true) }
+    ensures second { IfOk result (λ table. is_point table.columns (Num (pos 2) ∷ Num (pos 36) ∷ Num (pos 5) ∷ []) ≡ true) }
     ensures third { IfOk result (λ table. is_point table.columns (Num (pos 3) ∷ Num (pos 35) ∷ Num (pos 5) ∷ []) ≡ true) }
 {
     let id = column(alloc, "id", 9999)?;
@@ -48,6 +49,7 @@ pub(crate) fn schema_of(alloc: Global) -> Result<Schema, NoMemory>
     ensures key { IfOk result (λ schema. (table_at schema 0).key ≡ 0) }
     ensures point { IfOk result (λ schema. is_point (table_at schema 0).columns (Num (pos 1) ∷ Num (pos 31) ∷ Num (pos 5) ∷ []) ≡ true) }
     ensures old { IfOk result (λ schema. is_point (table_at schema 0).columns (Num (pos 1) ∷ Num (pos 41) ∷ Num (pos 5) ∷ []) ≡ true) }
+    ensures second { IfOk result (λ schema. is_point (table_at schema 0).columns (Num (pos 2) ∷ Num (pos 36) ∷ Num (pos 5) ∷ []) ≡ true) }
     ensures third { IfOk result (λ schema. is_point (table_at schema 0).columns (Num (pos 3) ∷ Num (pos 35) ∷ Num (pos 5) ∷ []) ≡ true) }
 {
     let mut schema = Schema::new(alloc);
@@ -267,27 +269,33 @@ fn rows_above_the_budget_are_dropped(rt: HostRuntime) {
     }
 }
 
-// Person 1 of department 5 has that age from now on.
-fn tell_of(alloc: Global, age: i64) -> Result<Tell, NoMemory>
-    ensures { IfOk result (λ tell. tell ≡ record { table = 0; key = Num (pos 1); after = Some (Num (pos 1) ∷ Num age ∷ Num (pos 5) ∷ []) }) }
+// The person of that number, of department 5, has that age from now on.
+fn tell_of(alloc: Global, id: i64, age: i64) -> Result<Tell, NoMemory>
+    ensures { IfOk result (λ tell. tell ≡ record { table = 0; key = Num id; after = Some (Num id ∷ Num age ∷ Num (pos 5) ∷ []) }) }
 {
-    let row = list_of(alloc, [Cell::Num(1), Cell::Num(age), Cell::Num(5)])?;
+    let row = list_of(alloc, [Cell::Num(id), Cell::Num(age), Cell::Num(5)])?;
     Ok(Tell {
         table: 0,
-        key: Cell::Num(1),
+        key: Cell::Num(id),
         after: Some(row),
     })
 }
 
-fn tell_age(alloc: Global, schema: &Schema, store: &mut Store, age: i64) -> Result<(), NoMemory>
+fn tell_age(
+    alloc: Global,
+    schema: &Schema,
+    store: &mut Store,
+    id: i64,
+    age: i64,
+) -> Result<(), NoMemory>
     requires there { 0 < length schema.now }
     requires key { (table_at schema.now 0).key ≡ 0 }
-    requires point { is_point (table_at schema.now 0).columns (Num (pos 1) ∷ Num age ∷ Num (pos 5) ∷ []) ≡ true }
+    requires point { is_point (table_at schema.now 0).columns (Num id ∷ Num age ∷ Num (pos 5) ∷ []) ≡ true }
     requires store { IsStore schema.now store.old.regions }
     ensures store { OnOk result (IsStore schema.now store.new.regions) }
     ensures settled { OnOk result (IsSettled schema.now store.old.regions → IsSettled schema.now store.new.regions) }
 {
-    let told = list_of(alloc, [tell_of(alloc, age)?])?;
+    let told = list_of(alloc, [tell_of(alloc, id, age)?])?;
     store.apply(alloc, told.as_slice())
 }
 
@@ -331,7 +339,7 @@ fn bring(alloc: Global, schema: &Schema, store: &mut Store) -> Result<(u64, Opti
     requires empty { store.old.regions ≡ [] }
 {
     hold(alloc, schema, store, 30, 40)?;
-    tell_age(alloc, schema, store, 31)?;
+    tell_age(alloc, schema, store, 1, 31)?;
     bring_older(alloc, schema, store)?;
     Ok((store.rows(), age_at(store, 1)))
 }
@@ -361,9 +369,9 @@ fn tell_both(
     requires empty { store.old.regions ≡ [] }
 {
     hold(alloc, schema, store, 30, 40)?;
-    tell_age(alloc, schema, store, 31)?;
+    tell_age(alloc, schema, store, 1, 31)?;
     let young = age_at(store, 0);
-    tell_age(alloc, schema, store, 41)?;
+    tell_age(alloc, schema, store, 1, 41)?;
     Ok((young, age_at(store, 0)))
 }
 
@@ -378,23 +386,25 @@ fn what_is_told_moves_a_row_in_and_out(rt: HostRuntime) {
     assert_eq!(rt; told_ages(rt.alloc()), Ok((Some(31), None)));
 }
 
-// The stamp of the class that holds person 1, if one does.
-fn holder_of(alloc: Global, schema: &Schema, store: &Store) -> Result<Option<u64>, NoMemory>
+// How many classes hold a person, and the stamp of the first.
+type Holders = (usize, Option<u64>);
+
+fn holders_of(alloc: Global, schema: &Schema, store: &Store, id: i64) -> Result<Holders, NoMemory>
     requires { IsStore schema.now store.now.regions }
 {
-    let classes = store.holders(alloc, 0, &Cell::Num(1))?;
+    let classes = store.holders(alloc, 0, &Cell::Num(id))?;
     match classes.get(0) {
-        Some(class) => Ok(Some(class.stamp)),
-        None => Ok(None),
+        Some(class) => Ok((classes.len(), Some(class.stamp))),
+        None => Ok((0, None)),
     }
 }
 
-// Which class holds person 1 in a store of the ages 30 to 40: at first, once person 1 is 31, and once person 1 is 41.
+// Which classes hold person 1 in a store of the ages 30 to 40: at first, once person 1 is 31, and once person 1 is 41.
 fn hold_by_turns(
     alloc: Global,
     schema: &Schema,
     store: &mut Store,
-) -> Result<(Option<u64>, Option<u64>, Option<u64>), NoMemory>
+) -> Result<(Holders, Holders, Holders), NoMemory>
     requires tables { IsTrue (list_all is_table schema.now) }
     requires there { 0 < length schema.now }
     requires key { (table_at schema.now 0).key ≡ 0 }
@@ -403,14 +413,14 @@ fn hold_by_turns(
     requires empty { store.old.regions ≡ [] }
 {
     hold(alloc, schema, store, 30, 40)?;
-    let first = holder_of(alloc, schema, store)?;
-    tell_age(alloc, schema, store, 31)?;
-    let young = holder_of(alloc, schema, store)?;
-    tell_age(alloc, schema, store, 41)?;
-    Ok((first, young, holder_of(alloc, schema, store)?))
+    let first = holders_of(alloc, schema, store, 1)?;
+    tell_age(alloc, schema, store, 1, 31)?;
+    let young = holders_of(alloc, schema, store, 1)?;
+    tell_age(alloc, schema, store, 1, 41)?;
+    Ok((first, young, holders_of(alloc, schema, store, 1)?))
 }
 
-fn held_by_turns(alloc: Global) -> Result<(Option<u64>, Option<u64>, Option<u64>), NoMemory> {
+fn held_by_turns(alloc: Global) -> Result<(Holders, Holders, Holders), NoMemory> {
     let schema = schema_of(alloc)?;
     let mut store = Store::new(alloc, LIMITS);
     hold_by_turns(alloc, &schema, &mut store)
@@ -418,5 +428,71 @@ fn held_by_turns(alloc: Global) -> Result<(Option<u64>, Option<u64>, Option<u64>
 
 #[test]
 fn a_class_holds_what_it_is_told(rt: HostRuntime) {
-    assert_eq!(rt; held_by_turns(rt.alloc()), Ok((None, Some(1), None)));
+    assert_eq!(rt;
+        held_by_turns(rt.alloc()),
+        Ok(((0, None), (1, Some(1)), (0, None)))
+    );
+}
+
+// Those ages come as well, at the query of that number; out of memory is said too where they do not fit the table, or some are held.
+fn hold_more(
+    alloc: Global,
+    schema: &Schema,
+    store: &mut Store,
+    number: u64,
+    lo: i64,
+    hi: i64,
+) -> Result<(), NoMemory>
+    requires tables { IsTrue (list_all is_table schema.now) }
+    requires there { 0 < length schema.now }
+    requires key { (table_at schema.now 0).key ≡ 0 }
+    requires store { IsStore schema.now store.old.regions }
+    requires settled { IsSettled schema.now store.old.regions }
+    ensures store { OnOk result (IsStore schema.now store.new.regions) }
+    ensures settled { OnOk result (IsSettled schema.now store.new.regions) }
+{
+    let parts = parts_of(alloc, lo, hi)?;
+    let part = &parts.as_slice()[0];
+    let cover = store.cover(alloc, part)?;
+    if !part.rects.fits(&schema.as_slice()[0]) || part.rects.meets(&cover) {
+        return Err(NoMemory);
+    }
+    let arrivals = narrow(alloc, lo, hi)?;
+    store.answered(alloc, schema, number, parts.as_slice(), arrivals)?;
+    Ok(())
+}
+
+// The ages 30 to 34, 35 to 40 and 60 to 70 come to an empty store, at three queries. Which classes hold person 2 then, and which
+// once person 2 is 36, and no longer 45.
+fn enter_one_of_three(
+    alloc: Global,
+    schema: &Schema,
+    store: &mut Store,
+) -> Result<(Holders, Holders), NoMemory>
+    requires tables { IsTrue (list_all is_table schema.now) }
+    requires there { 0 < length schema.now }
+    requires key { (table_at schema.now 0).key ≡ 0 }
+    requires second { is_point (table_at schema.now 0).columns (Num (pos 2) ∷ Num (pos 36) ∷ Num (pos 5) ∷ []) ≡ true }
+    requires empty { store.old.regions ≡ [] }
+{
+    hold(alloc, schema, store, 30, 34)?;
+    hold_more(alloc, schema, store, 2, 35, 40)?;
+    hold_more(alloc, schema, store, 3, 60, 70)?;
+    let first = holders_of(alloc, schema, store, 2)?;
+    tell_age(alloc, schema, store, 2, 36)?;
+    Ok((first, holders_of(alloc, schema, store, 2)?))
+}
+
+fn entered_one_of_three(alloc: Global) -> Result<(Holders, Holders), NoMemory> {
+    let schema = schema_of(alloc)?;
+    let mut store = Store::new(alloc, LIMITS);
+    enter_one_of_three(alloc, &schema, &mut store)
+}
+
+#[test]
+fn a_change_enters_the_region_of_its_new_row(rt: HostRuntime) {
+    assert_eq!(rt;
+        entered_one_of_three(rt.alloc()),
+        Ok(((0, None), (1, Some(2))))
+    );
 }

@@ -129,7 +129,7 @@ fn choose<'a>(
 fn outputs_of<'a>(alloc: Global, chosen: &[Shown<'a>], outputs: &[Output]) -> Result<Row, NoMemory>
     ensures { IfOk result (λ cells. cells ≡ outputs_of outputs.now chosen.now) }
 {
-    let mut cells = Seq::new(alloc);
+    let mut cells = Seq::with_room(alloc, outputs.len())?;
     for output in outputs {
         cells.push(chosen_cell(alloc, chosen, output.part as usize, output.column as usize)?)?;
     }

@@ -2,6 +2,7 @@ mod Budgets
 pub mod ClientLemmas
 mod EventLemmas
 mod ExplainLemmas
+mod GivenLemmas
 mod LentLemmas
 mod Named
 mod NewLemmas

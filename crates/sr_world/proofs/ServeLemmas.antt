@@ -153,13 +153,6 @@ push-some old new server after sent found is none sends makes stands made = by (
         push-goes old new server after session sent at (λ db here. let e : Some sent ≡ Some (serve_push db session).sent = sym is ∙ sends db session here at in cc)
         (λ db here. makes db session here at) stands made
 
--- the schema stays
-pub takes-schema : (db : Database) (server after : Server) (client : ℕ) (m : Message) (sent : List Message) → IsServer server db → Takes db server client m sent after
-    → after.tables.schema ≡ server.tables.schema
-takes-schema db server after client m sent is t =
-    let d : Taken = taken db (session_at server.sessions client) m t.result in
-    t.stands.knows.schema ∙ ((grows-taken db (session_at server.sessions client) m t.result (sound-of d.database t.stands.sound)).schema ∙ sym is.knows.schema)
-
 -- a message that fits is not refused
 pub not-refused : (misfit : Option BadFrame) (why : BadFrame) → misfit ≡ None → misfit ≡ Some why → ⊥
 not-refused misfit why fits bad = absurd (let wrong : None ≡ Some why = sym fits ∙ bad in cc)

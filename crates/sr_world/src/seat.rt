@@ -13,7 +13,8 @@ ghost use Rattle.sr_session.specs.Sessions.{Database};
 ghost use Rattle.sr_wire.specs.Limits.{IsSendable};
 ghost use Rattle.sr_client.specs.Bound.{IsMeaning};
 ghost use Rattle.sr_server.specs.declared.server.Server.{Server as TheServer};
-ghost use Rattle.sr_server.specs.Servers.{IsClientNumber, IsServer, StandsForSome, Takes, session_at};
+ghost use Rattle.sr_server.specs.Outboxes.{left_on};
+ghost use Rattle.sr_server.specs.Servers.{IsClientNumber, IsServer, IsSessionIf, StandsForSome, Takes, put, session_at};
 ghost use Rattle.sr_runs.specs.Lines.{served_line};
 ghost use Rattle.sr_runs.specs.Runs.{Acts, Settles};
 ghost use Rattle.sr_world.specs.Seats.{Delivers, IsSomeSeat, SeatGoes, has_mail, mail};
@@ -31,6 +32,7 @@ use sr_message::message::{Message, Messages};
 use sr_policy::policy::Limits;
 use sr_query::query::Query;
 use sr_script::line::{TraceLine, TraceLines};
+use sr_server::outbox::Outbox;
 use sr_server::server::Server;
 use std::alloc::Global;
 
@@ -238,14 +240,73 @@ impl Seat {
         ensures schema { server.new.tables.schema ≡ server.old.tables.schema }
     {
         let client = self.client.id;
-        match server.take(alloc, client, message) {
-            Ok(sent) => {
-                let frames = self.send_back(alloc, sent)?;
+        match server.begin(alloc, client, message) {
+            Ok(outbox) => {
+                let frames = self.send_answer(alloc, server, outbox)?;
                 served_line(alloc, client, message, frames)
             }
             Err(No::Refused(_)) => unreachable!(),
             Err(No::NoMemory) => Err(NoMemory),
         }
+    }
+
+    /// Puts what is left of an Outbox behind what is on its way to the client, and finishes it; tells how many messages that were.
+    fn send_answer(
+        &mut self,
+        alloc: Global,
+        server: &mut Server,
+        outbox: Outbox,
+    ) -> Result<u64, NoMemory>
+        requires client { IsClientNumber outbox.client }
+        requires stands { StandsForSome server.old }
+        requires sendable { All IsSendable (left_on outbox server.old) }
+        requires closed { session_at server.old.sessions outbox.client ≡ None }
+        requires fits { (db : Database) → IsServer server.old db → IsSessionIf db outbox.session }
+        ensures sent { OnOk result (self.new ≡ record self.old { to_client = self.old.to_client ++ left_on outbox server.old }) }
+        ensures frames { IfOk result (λ frames. frames ≡ length (left_on outbox server.old)) }
+        ensures put { OnOk result (server.new ≡ put server.old outbox.client outbox.session) }
+        ensures others { server.new ≡ record server.old { sessions = server.new.sessions } }
+        ensures rest { self.new ≡ record self.old { to_client = self.new.to_client } }
+    {
+        let mut outbox = outbox;
+        match self.send_left(alloc, server, &mut outbox) {
+            Ok(frames) => {
+                server.finish(outbox);
+                Ok(frames)
+            }
+            Err(no) => {
+                drop(outbox);
+                Err(no)
+            }
+        }
+    }
+
+    /// Puts each message that is left of an Outbox, as it is made, behind what is on its way to the client; tells how many they were.
+    fn send_left(
+        &mut self,
+        alloc: Global,
+        server: &Server,
+        outbox: &mut Outbox,
+    ) -> Result<u64, NoMemory>
+        requires sendable { All IsSendable (left_on outbox.old server.now) }
+        ensures sent { OnOk result (self.new ≡ record self.old { to_client = self.old.to_client ++ left_on outbox.old server.now }) }
+        ensures frames { IfOk result (λ frames. frames ≡ length (left_on outbox.old server.now)) }
+        ensures none { OnOk result (left_on outbox.new server.now ≡ []) }
+        ensures others { outbox.new ≡ record outbox.old { left = outbox.new.left } }
+        ensures rest { self.new ≡ record self.old { to_client = self.new.to_client } }
+    {
+        'messages: for frames in 0..u64::MAX {
+            match outbox.next(alloc, server)? {
+                None => return Ok(frames),
+                Some(message) => {
+                    let pushed = self.to_client.push(alloc, &message);
+                    drop(message);
+                    pushed?;
+                }
+            }
+        }
+        // more messages than that are in no memory
+        Err(NoMemory)
     }
 
     /// Puts what the server sends behind what is on its way to the client, and tells how many messages that were.

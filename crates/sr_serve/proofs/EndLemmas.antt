@@ -15,11 +15,14 @@ use Rattle.sr_session.specs.Refusals.{server_misfit}
 use Rattle.sr_session.specs.Scenes.{Taken, taken}
 use Rattle.sr_session.specs.Sessions.{Database, Session, Served}
 use Rattle.sr_links.specs.Honest.{Server}
-use Rattle.sr_server.specs.Servers.{IsClientNumber, IsServer, Takes, Gives, session_at, with_session}
+use Rattle.sr_server.specs.Outboxes.{Begins, left_on}
+use Rattle.sr_server.specs.Servers.{IsClientNumber, IsServer, Gives, put, session_at, with_session}
+use Rattle.sr_server.specs.declared.outbox.Outbox.{Outbox}
 use Rattle.sr_talk.specs.Serving.{named}
 use Rattle.sr_talk.specs.Talked as talk
 use Rattle.sr_server.specs.declared.server.Server as code
-use Rattle.sr_serve.specs.ServerEnds.{no_sessions, HasSession, IsEnd, number_for}
+use Rattle.sr_serve.specs.declared.server_end.ServerEnd.{ServerEnd}
+use Rattle.sr_serve.specs.ServerEnds.{no_sessions, Becomes, HasSession, IsEnd, number_for}
 
 -- ---- lists of sessions
 
@@ -88,22 +91,18 @@ session-is client sessions (Some session) m (is, are) =
     ap (λ xs. session_at xs (number_for client m)) are
     ∙ (ap (session_at (with_session no_sessions client (Some session))) (own-number client m is) ∙ set-get no_sessions (client - 1) (Some session) (omega (arith, few, some)))
 
-pub session-then : (client : ℕ) (sessions : List (Option Session)) (session : Option Session) (m : Message) (new : Session) → IsTrue (has_spelling m) → HasSession client sessions session
-    → HasSession (number_for client m) (with_session sessions (number_for client m) (Some new)) (Some new)
-session-then client sessions None m new spelled (zero_is, are) =
-    (number-is client sessions None m spelled (zero_is, are), ap (λ xs. with_session xs (number_for client m) (Some new)) are)
-session-then client sessions (Some session) m new spelled (is, are) =
-    let same = own-number client m is in (
-      subst IsClientNumber (sym same) is,
-      ap (λ xs. with_session xs (number_for client m) (Some new)) are
-          ∙ (ap (λ n. with_session (with_session no_sessions client (Some session)) n (Some new)) same
-          ∙ (set-set no_sessions (client - 1) (Some session) (Some new) ∙ ap (λ n. with_session no_sessions n (Some new)) (sym same))),
-    )
-
 -- once it is closed nobody has one
 pub session-closed : (client : ℕ) (sessions : List (Option Session)) (session : Session) → HasSession client sessions (Some session) → with_session sessions client None ≡ no_sessions
 session-closed client sessions session (is, are) =
     ap (λ xs. with_session xs client None) are ∙ (set-set no_sessions (client - 1) (Some session) None ∙ set-none 64 (client - 1))
+
+pub session-out : (client : ℕ) (sessions : List (Option Session)) (session : Option Session) (m : Message) → HasSession client sessions session → with_session sessions (number_for client m) None ≡ no_sessions
+session-out client sessions None m (zero_is, are) = ap (λ xs. with_session xs (number_for client m) None) are ∙ set-none 64 (number_for client m - 1)
+session-out client sessions (Some session) m (is, are) = ap (λ n. with_session sessions n None) (own-number client m is) ∙ session-closed client sessions session (is, are)
+
+-- where nobody has a session, that client has none
+pub none-there : (sessions : List (Option Session)) (client : ℕ) → sessions ≡ no_sessions → session_at sessions client ≡ None
+none-there sessions client are = ap (λ xs. session_at xs client) are ∙ get-none 64 (client - 1)
 
 -- ---- which messages are accepted
 
@@ -175,26 +174,27 @@ module _ (server new : code.Server) (client : ℕ) (s : Server) (m : Message) (s
       ∙ (ap (λ session. server_misfit s.database.schema session (number_for client m) m) (session-is client server.sessions s.session m h)
       ∙ same-misfit s.database.schema client server.sessions s.session m h)
 
-  -- it is answered by the rules
-  pub end-takes : (sent : List Message) → IsTrue (has_spelling m)
+  -- it is begun by the rules
+  pub end-begins : (outbox : Outbox) → IsTrue (has_spelling m)
       → ((why : BadFrame) → server_misfit server.tables.schema (session_at server.sessions (number_for client m)) (number_for client m) m ≡ Some why → ⊥)
-      → Takes s.database server (number_for client m) m sent new → talk.Takes Gives s m sent (IsEnd (record { server = new; client = number_for client m }))
-  end-takes sent spelled never t =
+      → Begins s.database server (number_for client m) m outbox new → talk.Takes Gives s m (left_on outbox new) (Becomes (record { server = new; client = 0 }) outbox)
+  end-begins outbox spelled never b =
       let at = session-is client server.sessions s.session m h in
       let accepted : server_misfit s.database.schema s.session (named m) m ≡ None = none-of _ (λ why e. never why (same-at ∙ e)) in
-      let same : taken s.database (session_at server.sessions (number_for client m)) m t.result ≡ taken s.database s.session m t.result = ap (λ session. taken s.database session m t.result) at in
-      let o = opens s.database s.session m t.result accepted in
-      let sessions : new.sessions ≡ with_session server.sessions (number_for client m) (Some o.new) =
-      t.sessions ∙ (ap (λ (x : Taken). with_session server.sessions (number_for client m) x.served.session) same ∙ ap (with_session server.sessions (number_for client m)) o.is) in
+      let same : taken s.database (session_at server.sessions (number_for client m)) m b.result ≡ taken s.database s.session m b.result = ap (λ session. taken s.database session m b.result) at in
+      let o = opens s.database s.session m b.result accepted in
+      let own : outbox.session ≡ Some o.new = b.session ∙ (ap (λ (x : Taken). x.served.session) same ∙ o.is) in
+      let number : IsClientNumber outbox.client = subst IsClientNumber (sym b.is_for) (number-is client server.sessions s.session m spelled h) in
       record {
-        result = t.result;
+        result = b.result;
         accepted = accepted;
-        gives = t.gives;
-        sends = t.sends ∙ ap (λ (x : Taken). x.served.sent) same;
+        gives = b.gives;
+        sends = b.sends ∙ ap (λ (x : Taken). x.served.sent) same;
         stands = record {
-          server = subst (λ (x : Taken). IsServer new x.database) same t.stands;
-          session = subst (HasSession (number_for client m) new.sessions) (sym o.is)
-              (subst (λ xs. HasSession (number_for client m) xs (Some o.new)) (sym sessions) (session-then client server.sessions s.session m o.new spelled h));
+          closed = record { server = subst (λ (x : Taken). IsServer new x.database) same b.stands; session = (refl, b.sessions ∙ session-out client server.sessions s.session m h) };
+          number = number;
+          session = subst (HasSession outbox.client (with_session no_sessions outbox.client outbox.session)) (sym o.is) (number, ap (with_session no_sessions outbox.client) own);
+          fits = b.fits;
         };
       }
 
@@ -207,3 +207,18 @@ module _ (server new : code.Server) (client : ℕ) (s : Server) (m : Message) (s
 pub end-closed : (client : ℕ) (sessions : List (Option Session)) (session : Option Session) → HasSession client sessions session → (client ≡ 0 → ⊥) → with_session sessions client None ≡ no_sessions
 end-closed client sessions None (zero_is, are) some = absurd (some zero_is)
 end-closed client sessions (Some session) h some = session-closed client sessions session h
+
+-- ---- an Outbox
+
+-- one message of it was made
+pub becomes-still : (e : ServerEnd) (old new : Outbox) (s : Server) → Becomes e old s → new ≡ record old { left = new.left } → Becomes e new s
+becomes-still e old new s b is = subst (λ (o : Outbox). Becomes e o s) (sym is) (record { closed = b.closed; number = b.number; session = b.session; fits = b.fits })
+
+-- it is finished
+pub end-finished : (e : ServerEnd) (outbox : Outbox) (new : code.Server) (s : Server) → Becomes e outbox s → new ≡ put e.server outbox.client outbox.session → IsServer new s.database
+    → IsEnd (record { server = new; client = outbox.client }) s
+end-finished e outbox new s b is stands = record {
+  server = stands;
+  session = subst (λ xs. HasSession outbox.client xs s.session)
+      (sym (ap (λ (x : code.Server). x.sessions) is ∙ ap (λ xs. with_session xs outbox.client outbox.session) b.closed.session.1)) b.session;
+}

@@ -2,9 +2,10 @@
 use Rattle.std.specs.Prelude.{ℕ, ◌-◌, ◌^◌, ◌≡◌, ◌==◌, List, replicate, Option, Some, None, if◌then◌else◌}
 use Rattle.sr_log.specs.Held.{newest as newest_of}
 use Rattle.sr_message.specs.declared.message.Message.{Message}
-use Rattle.sr_session.specs.Sessions.{Session}
-use Rattle.sr_links.specs.Honest.{Server}
-use Rattle.sr_server.specs.Servers.{IsClientNumber, IsServer, with_session}
+use Rattle.sr_session.specs.Sessions.{Database, Session}
+use Rattle.sr_links.specs.Honest.{Server, cut_off}
+use Rattle.sr_server.specs.Servers.{IsClientNumber, IsServer, IsSessionIf, with_session}
+use Rattle.sr_server.specs.declared.outbox.Outbox.{Outbox}
 use Rattle.sr_talk.specs.Serving.{named}
 use Rattle.sr_serve.specs.declared.server_end.ServerEnd.{ServerEnd}
 
@@ -19,6 +20,13 @@ HasSession client sessions (Some session) = IsClientNumber client × (sessions �
 pub record IsEnd (e : ServerEnd) (s : Server) : Type 0 where
   pub server : IsServer e.server s.database
   pub session : HasSession e.client e.server.sessions s.session
+
+-- Nobody has a session. An Outbox has the one that its client is to have, which fits each database that the server stands for.
+pub record Becomes (e : ServerEnd) (outbox : Outbox) (s : Server) : Type 0 where
+  pub closed : IsEnd e (cut_off s)
+  pub number : IsClientNumber outbox.client
+  pub session : HasSession outbox.client (with_session no_sessions outbox.client outbox.session) s.session
+  pub fits : (db : Database) → IsServer e.server db → IsSessionIf db outbox.session
 
 -- under which number a message is taken
 abbrev pub number_for : ℕ → Message → ℕ

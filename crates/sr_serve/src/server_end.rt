@@ -5,16 +5,18 @@ ghost use Rattle.sr_server.specs.Servers.{Gives, IsServer};
 ghost use Rattle.sr_session.specs.Sessions.{Database};
 ghost use Rattle.sr_talk.specs.Rounds.{at_rest};
 ghost use Rattle.sr_talk.specs.Serving.{named};
-ghost use Rattle.sr_serve.specs.ServerEnds.{IsEnd, number_for, room_of};
+ghost use Rattle.sr_server.specs.Outboxes.{left_on};
+ghost use Rattle.sr_serve.specs.ServerEnds.{Becomes, IsEnd, number_for, room_of};
 
-use sr_cell::list::No;
-use sr_message::message::{Message, Messages};
+use sr_cell::list::{No, NoMemory};
+use sr_message::message::Message;
+use sr_server::outbox::Outbox;
 use sr_server::server::Server;
 use sr_talk::parts::Serves;
 use sr_wire::bad_frame::BadFrame;
 use std::alloc::Global;
 
-/// A server, and the number of the client on the connection; 0 before its first message was taken.
+/// A server, and the number of the client on the connection; 0 before its first message was taken, and while an Outbox is out.
 #[derive(Drop)]
 pub struct ServerEnd {
     pub server: Server,
@@ -51,21 +53,37 @@ fn number_for(client: u8, message: &Message) -> u8
 }
 
 impl Serves for ServerEnd {
+    type Outbox = Outbox;
+
     ghost is_of = { IsEnd };
 
     ghost gives = { Gives };
 
     ghost room = { room_of };
 
-    fn take(&mut self, alloc: Global, message: &Message) -> Result<Messages, No<BadFrame>> {
+    ghost left = { λ e outbox. left_on outbox e.server };
+
+    ghost becomes = { Becomes };
+
+    fn begin(&mut self, alloc: Global, message: &Message) -> Result<Outbox, No<BadFrame>> {
         let client = number_for(self.client, message);
-        match self.server.take(alloc, client, message) {
-            Ok(sent) => {
-                self.client = client;
-                Ok(sent)
+        match self.server.begin(alloc, client, message) {
+            Ok(outbox) => {
+                // nobody has a session until it is finished
+                self.client = 0;
+                Ok(outbox)
             }
             Err(no) => Err(no),
         }
+    }
+
+    fn next(&self, alloc: Global, outbox: &mut Outbox) -> Result<Option<Message>, NoMemory> {
+        outbox.next(alloc, &self.server)
+    }
+
+    fn finish(&mut self, outbox: Outbox) {
+        self.client = outbox.client;
+        self.server.finish(outbox);
     }
 
     fn cut(&mut self) {

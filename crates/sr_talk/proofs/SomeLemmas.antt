@@ -6,7 +6,7 @@ use Rattle.std.proofs.Math.Seq.{take-append-add, take-length}
 use Rattle.sr_cell.specs.declared.fault.Fault.{Fault as TheFault}
 use Rattle.sr_io.specs.Causes.{Rose}
 use Rattle.sr_io.specs.Pieces.{WritesPrefix}
-use Rattle.sr_io.specs.Told.{Reading, Writing, Linking, OnlyFaults}
+use Rattle.sr_io.specs.Told.{Reading, Writing, Linking}
 use Rattle.sr_io.proofs.SoFar.{Appends-append}
 use Rattle.sr_message.specs.declared.message.Message.{Message}
 use Rattle.sr_model.specs.Statements.{Tables}

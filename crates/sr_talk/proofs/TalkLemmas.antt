@@ -13,11 +13,11 @@ use Rattle.sr_model.specs.Statements.{Tables}
 use Rattle.sr_session.specs.Sessions.{Database}
 use Rattle.sr_wire.specs.declared.wire_fault.WireFault.{WireFault}
 use Rattle.sr_wire.specs.Spelling.{has_spelling, spelling}
-use Rattle.sr_links.specs.Honest.{Server, Frame as FrameOf, answer}
+use Rattle.sr_links.specs.Honest.{Server, Frame as FrameOf, answer, cut_off}
 use Rattle.sr_talk.specs.Moves.{OnlyLinks}
 use Rattle.sr_talk.specs.Reading.{Reads, Nexts}
 use Rattle.sr_talk.specs.Serving.{Answers, spelled, EndsAs, frames_read}
-use Rattle.sr_talk.specs.Talked.{Takes, Sends, SendsSome, Turns, TurnsInPart, Talks, TalksInPart, ClosesAs, SentOn, EndsAt}
+use Rattle.sr_talk.specs.Talked.{LeftAs, Takes, Sends, SendsSome, Turns, TurnsInPart, Talks, TalksInPart, ClosesAs, SentOn, EndsAt}
 use Rattle.sr_talk.specs.declared.frames.Next.TheVariants.{End as NextEnd, Torn as NextTorn, Fault as NextFault, Bad as NextBad}
 use Rattle.sr_talk.specs.declared.serve.How.TheVariants.{End, Torn, Fault, Bad, Refused as ByRefusal, Limit}
 use Rattle.sr_talk.specs.declared.serve.Turn.TheVariants.{Refused, Broken}
@@ -254,3 +254,41 @@ module _ (Gives : Database → Message → Result Tables TheFault → Type 0) wh
     counts = refl;
     stands = h.stands;
   }
+
+  -- a server is left as another one would be
+  pub left-as : (how : How) (s : Server) (first now : Linking) (count : ℕ) (IsOne IsOther : Server → Type 0) → ((x : Server) → IsOne x → IsOther x) → Talks Gives s first now how count IsOne
+      → Talks Gives s first now how count IsOther
+  left-as how s first now count IsOne IsOther more t = record {
+    frames = t.frames;
+    sent = t.sent;
+    left = t.left;
+    after = t.after;
+    brings = t.brings;
+    answers = t.answers;
+    is = t.is;
+    ends = t.ends;
+    closes = t.closes;
+    count_is = t.count_is;
+    counts = t.counts;
+    stands = more t.after t.stands;
+  }
+
+-- closing the session leads to one end, whether it was closed before or not
+pub closed-after : (how : How) (IsNew IsClosed : Server → Type 0) → ((s : Server) → IsNew s → IsClosed (cut_off s)) → (s : Server) → LeftAs how IsNew s → IsClosed (cut_off s)
+closed-after End IsNew IsClosed closes s is = closes s is
+closed-after Torn IsNew IsClosed closes s is = closes s is
+closed-after Fault IsNew IsClosed closes s (inl is) = closes s is
+closed-after Fault IsNew IsClosed closes s (inr is) = closes (cut_off s) is
+closed-after Bad IsNew IsClosed closes s is = closes s is
+closed-after ByRefusal IsNew IsClosed closes s is = closes s is
+closed-after Limit IsNew IsClosed closes s is = closes s is
+
+-- so there is one that it is
+pub some-left : (how : How) (IsNew : Server → Type 0) (s : Server) → LeftAs how IsNew s → (x : Server) × IsNew x
+some-left End IsNew s is = (s, is)
+some-left Torn IsNew s is = (s, is)
+some-left Fault IsNew s (inl is) = (s, is)
+some-left Fault IsNew s (inr is) = (cut_off s, is)
+some-left Bad IsNew s is = (s, is)
+some-left ByRefusal IsNew s is = (s, is)
+some-left Limit IsNew s is = (s, is)

@@ -7,7 +7,7 @@ use Rattle.sr_io.specs.Told.{Linking, OnlyFaults, Brings, IsOver, sent_on, taken
 use Rattle.sr_message.specs.declared.message.Message.{Message}
 use Rattle.sr_model.specs.Statements.{Tables}
 use Rattle.sr_session.specs.Sessions.{Database}
-use Rattle.sr_links.specs.Honest.{Server, Frame, answer}
+use Rattle.sr_links.specs.Honest.{Server, Frame, answer, cut_off}
 use Rattle.sr_talk.specs.Moves.{SendsInPart}
 use Rattle.sr_talk.specs.Serving.{Answers, EndsAs, IsAccepted, IsRefused, frames_read, spelled}
 use Rattle.sr_talk.specs.declared.serve.How.{How}
@@ -39,6 +39,16 @@ EndsAt Limit frames = frames ≡ 1000000
 EndsAt Fault frames = frames ≤ 1000000
 EndsAt ByRefusal frames = frames ≤ 1000000
 EndsAt how frames = frames < 1000000
+
+-- Where the link failed before all was sent, the session is closed.
+abbrev pub LeftBy : Turn → (Server → Type 0) → Server → Type 0
+LeftBy Broken IsNew = λ s. IsNew (cut_off s)
+LeftBy turn IsNew = IsNew
+
+-- after a fault the session may be closed
+abbrev pub LeftAs : How → (Server → Type 0) → Server → Type 0
+LeftAs Fault IsNew = λ s. IsNew s ⊎ IsNew (cut_off s)
+LeftAs how IsNew = IsNew
 
 module _ (Gives : Database → Message → Result Tables TheFault → Type 0) where
   -- The message is accepted, all that the rules give is to be sent, and the server stands so then.

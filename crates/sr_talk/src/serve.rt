@@ -6,7 +6,7 @@ ghost use Rattle.sr_wire.specs.Spelling.{has_spelling, spelling};
 ghost use Rattle.sr_links.specs.Honest.{Server};
 ghost use Rattle.sr_talk.specs.Moves.{OnlyLinks, SendsAs, SendsInPart};
 ghost use Rattle.sr_talk.specs.Serving.{spelled};
-ghost use Rattle.sr_talk.specs.Talked.{Turns, TurnsInPart, Talks, TalksInPart};
+ghost use Rattle.sr_talk.specs.Talked.{LeftAs, LeftBy, Turns, TurnsInPart, Talks, TalksInPart};
 ghost use Rattle.sr_talk.specs.declared.serve.How.TheVariants.{Fault as ByFault};
 ghost use Rattle.sr_talk.specs.declared.serve.Turn.TheVariants.{Broken};
 
@@ -98,24 +98,81 @@ fn answer_frame<L: Link, S: Serves>(
     requires stands { (s : Server) × S.is_of server.old s }
     requires spelled { IsTrue (has_spelling message.now) }
     requires room { 0 < S.room server.old }
-    ensures turn { (s : Server) → S.is_of server.old s → IfOk result (λ turn. Turns S.gives turn s message.now (L.linking link.old) (L.linking link.new) (S.is_of server.new)) }
-    ensures in_part { (s : Server) → S.is_of server.old s → OnErr result (TurnsInPart S.gives s message.now (L.linking link.old) (L.linking link.new) (S.is_of server.new)) }
+    ensures turn { (s : Server) → S.is_of server.old s
+        → IfOk result (λ turn. Turns S.gives turn s message.now (L.linking link.old) (L.linking link.new) (LeftBy turn (S.is_of server.new))) }
+    ensures in_part { (s : Server) → S.is_of server.old s
+        → OnErr result (TurnsInPart S.gives s message.now (L.linking link.old) (L.linking link.new) (LeftBy Broken (S.is_of server.new))) }
     ensures draws { S.room server.old ≤ S.room server.new + 1 }
     ensures stays { OnlyLinks L L.reading L.writing L.linking L.held L.complaints L.IsSteady link.old link.new }
     ensures stays_up { (L.linking link.new).is_up ≡ (L.linking link.old).is_up }
     ensures steady_fails_only_down { L.IsSteady link.old → (L.linking link.old).is_up ≡ true → IfOk result (λ turn. turn ≢ Broken) }
 {
-    match server.take(alloc, message) {
+    match server.begin(alloc, message) {
         Err(No::Refused(_)) => Ok(Turn::Refused),
         Err(No::NoMemory) => Err(NoMemory),
-        Ok(sent) => {
-            if send_messages(alloc, link, sent.as_slice())? {
+        Ok(outbox) => {
+            if send_answer(alloc, link, server, outbox)? {
                 Ok(Turn::Whole)
             } else {
                 Ok(Turn::Broken)
             }
         }
     }
+}
+
+/// Sends all that is left of an Outbox, and finishes it. Answers false where the link fails; then, and out of memory, fewer bytes were
+/// sent, and the Outbox is dropped.
+fn send_answer<L: Link, S: Serves>(
+    alloc: Global,
+    link: &mut L,
+    server: &mut S,
+    outbox: S::Outbox,
+) -> Result<bool, NoMemory>
+    requires begun { (s : Server) × S.becomes server.old outbox s }
+    requires sendable { All IsSendable (S.left server.old outbox) }
+    ensures sent { IfOk result (λ whole. SendsAs whole (L.linking link.old) (L.linking link.new) (spelled (S.left server.old outbox))) }
+    ensures in_part { OnErr result (SendsInPart (L.linking link.old) (L.linking link.new) (spelled (S.left server.old outbox))) }
+    ensures finished { (s : Server) → S.becomes server.old outbox s → IfOk result (λ whole. whole ≡ true → S.is_of server.new s) }
+    ensures dropped { IfOk result (λ whole. whole ≡ false → server.new ≡ server.old) }
+    ensures unchanged { OnErr result (server.new ≡ server.old) }
+    ensures draws { S.room server.new ≡ S.room server.old }
+    ensures stays { OnlyLinks L L.reading L.writing L.linking L.held L.complaints L.IsSteady link.old link.new }
+    ensures stays_up { (L.linking link.new).is_up ≡ (L.linking link.old).is_up }
+    ensures steady_fails_only_down { L.IsSteady link.old → (L.linking link.old).is_up ≡ true → IfOk result (λ whole. whole ≡ true) }
+{
+    let mut outbox = outbox;
+    if !send_left(alloc, link, server, &mut outbox)? {
+        return Ok(false);
+    }
+    server.finish(outbox);
+    Ok(true)
+}
+
+/// Sends the frames of the messages that are left of an Outbox, each before the next is made. Answers false where the link fails; then,
+/// and out of memory, fewer bytes were sent.
+fn send_left<L: Link, S: Serves>(
+    alloc: Global,
+    link: &mut L,
+    server: &S,
+    outbox: &mut S::Outbox,
+) -> Result<bool, NoMemory>
+    requires { All IsSendable (S.left server.now outbox.old) }
+    ensures sent { IfOk result (λ whole. SendsAs whole (L.linking link.old) (L.linking link.new) (spelled (S.left server.now outbox.old))) }
+    ensures in_part { OnErr result (SendsInPart (L.linking link.old) (L.linking link.new) (spelled (S.left server.now outbox.old))) }
+    ensures none { IfOk result (λ whole. whole ≡ true → S.left server.now outbox.new ≡ []) }
+    ensures becomes { (s : Server) → S.becomes server.now outbox.old s → S.becomes server.now outbox.new s }
+    ensures stays { OnlyLinks L L.reading L.writing L.linking L.held L.complaints L.IsSteady link.old link.new }
+    ensures stays_up { (L.linking link.new).is_up ≡ (L.linking link.old).is_up }
+    ensures steady_fails_only_down { L.IsSteady link.old → (L.linking link.old).is_up ≡ true → IfOk result (λ whole. whole ≡ true) }
+{
+    'messages: while let Some(message) = server.next(alloc, outbox)? {
+        let sent = send_one(alloc, link, &message);
+        drop(message);
+        if !sent? {
+            return Ok(false);
+        }
+    }
+    Ok(true)
 }
 
 /// A connection that ended so, after so many whole frames.
@@ -134,7 +191,8 @@ pub fn serve_connection<L: Link, S: Serves>(
 ) -> Result<Served, NoMemory>
     requires stands { (s : Server) × S.is_of server.old s }
     requires room { 1000000 ≤ S.room server.old }
-    ensures talked { (s : Server) → S.is_of server.old s → IfOk result (λ served. Talks S.gives s (L.linking link.old) (L.linking link.new) served.how served.frames (S.is_of server.new)) }
+    ensures talked { (s : Server) → S.is_of server.old s
+        → IfOk result (λ served. Talks S.gives s (L.linking link.old) (L.linking link.new) served.how served.frames (LeftAs served.how (S.is_of server.new))) }
     ensures in_part { (s : Server) → S.is_of server.old s → OnErr result (TalksInPart S.gives s (L.linking link.old) (L.linking link.new)) }
     ensures draws { S.room server.old ≤ S.room server.new + 1000000 }
     ensures stays { OnlyLinks L L.reading L.writing L.linking L.held L.complaints L.IsSteady link.old link.new }
@@ -154,7 +212,8 @@ fn serve_frames<L: Link, S: Serves>(
     requires unread { feed.old ≡ [] }
     requires stands { (s : Server) × S.is_of server.old s }
     requires room { 1000000 ≤ S.room server.old }
-    ensures talked { (s : Server) → S.is_of server.old s → IfOk result (λ served. Talks S.gives s (L.linking link.old) (L.linking link.new) served.how served.frames (S.is_of server.new)) }
+    ensures talked { (s : Server) → S.is_of server.old s
+        → IfOk result (λ served. Talks S.gives s (L.linking link.old) (L.linking link.new) served.how served.frames (LeftAs served.how (S.is_of server.new))) }
     ensures in_part { (s : Server) → S.is_of server.old s → OnErr result (TalksInPart S.gives s (L.linking link.old) (L.linking link.new)) }
     ensures draws { S.room server.old ≤ S.room server.new + 1000000 }
     ensures stays { OnlyLinks L L.reading L.writing L.linking L.held L.complaints L.IsSteady link.old link.new }

@@ -2,9 +2,11 @@ use Rattle.std.proofs.Common.{◌++◌, Err, ap, arith, rules}
 use Rattle.sr_io.specs.Told.{Linking}
 use Rattle.sr_talk.specs.Rounds.{at_rest}
 use Rattle.sr_talk.specs.Serving.{spelled}
+use Rattle.sr_talk.specs.Talked.{LeftAs}
 use Rattle.sr_talk.proofs.PeerLemmas.{not-last, one-less}
 use Rattle.sr_talk.proofs.RoundLemmas.{round, none-made, one-cut-short}
 use Rattle.sr_talk.proofs.MoveLemmas.{so-in-err}
+use Rattle.sr_talk.proofs.TalkLemmas.{closed-after, some-left}
 use Rattle.sr_talk.proofs.rounds.serve_one.Goals as goal
 
 pub returns-clause-round : goal.returns-clause-round
@@ -12,8 +14,15 @@ returns-clause-round g c db is =
     let one = c.accept.ensures.faults_never_fall in
     let two = c.serve_connection.ensures.stays.faults_never_fall in
     round g.S.Serves.gives db (g.D.Outside.linking c.args.dock.now) (g.D.Outside.linking c.accept.new.self) (g.D.Outside.linking c.serve_connection.new.link) (g.D.Outside.linking c.hang_up.new.self) c.in_ok-served.served
-    (g.S.Serves.is_of c.serve_connection.new.server) (g.S.Serves.is_of c.cut.new.self) (λ last. c.accept.ensures.none_past_the_last last (search rules)) c.in-Ok.ensures.made (c.in_ok-served.ensures.talked (at_rest db) is) (λ s after. c.cut.ensures.closed s after) c.hang_up.ensures.over
+    (LeftAs c.in_ok-served.served.how (g.S.Serves.is_of c.serve_connection.new.server)) (g.S.Serves.is_of c.cut.new.self) (λ last. c.accept.ensures.none_past_the_last last (search rules)) c.in-Ok.ensures.made (c.in_ok-served.ensures.talked (at_rest db) is)
+    (closed-after c.in_ok-served.served.how (g.S.Serves.is_of c.serve_connection.new.server) (g.S.Serves.is_of c.cut.new.self) c.cut.ensures.closed) c.hang_up.ensures.over
     (omega (arith, one, two))
+
+pub cut-requires : goal.cut-requires
+cut-requires g c =
+    let (db, is) = c.requires.stands in
+    let talks = c.in_ok-served.ensures.talked (at_rest db) is in
+    record { stands = some-left c.in_ok-served.served.how (g.S.Serves.is_of c.serve_connection.new.server) talks.after talks.stands }
 
 pub returns-clause-steady : goal.returns-clause-steady
 returns-clause-steady g c steady more enough =

@@ -1,5 +1,5 @@
 //! The messages that are left.
-ghost use Rattle.std.specs.Prelude.{◌≡◌, [], ◌++◌, IfOk, OnOk, OnErr, None, option_to_list};
+ghost use Rattle.std.specs.Prelude.{◌≡◌, ◌≢◌, [], ◌++◌, IfOk, OnOk, OnErr, None, option_to_list};
 ghost use Rattle.sr_outbox.specs.Left.{messages};
 
 use crate::item::{Item, Items};
@@ -36,7 +36,8 @@ impl Left {
         }
     }
 
-    /// The first message that is left on these tables and that log, or None where none is left. In want of memory nothing changes.
+    /// The first message that is left on these tables and that log, or None where none is left. In want of memory, where one is left,
+    /// nothing changes.
     pub fn next(
         &mut self,
         alloc: Global,
@@ -46,6 +47,7 @@ impl Left {
         ensures given { IfOk result (λ message.
             messages tables.now log.now self.old ≡ option_to_list message ++ messages tables.now log.now self.new) }
         ensures none { IfOk result (λ message. message ≡ None → messages tables.now log.now self.old ≡ []) }
+        ensures wanting { OnErr result (messages tables.now log.now self.old ≢ []) }
         ensures unchanged { OnErr result (self.new ≡ self.old) }
     {
         let Some(item) = self.items.front() else {

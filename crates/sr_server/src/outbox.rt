@@ -1,5 +1,5 @@
 //! What a server has still to send for a request.
-ghost use Rattle.std.specs.Prelude.{◌≡◌, [], ◌++◌, IfOk, OnOk, OnErr, None, option_to_list};
+ghost use Rattle.std.specs.Prelude.{◌≡◌, ◌≢◌, [], ◌++◌, IfOk, OnOk, OnErr, None, option_to_list};
 ghost use Rattle.sr_server.specs.Outboxes.{left_on};
 
 use crate::server::Server;
@@ -18,10 +18,12 @@ pub struct Outbox {
 }
 
 impl Outbox {
-    /// The first of the messages that are left on that server, or None where none is left. In want of memory nothing changes.
+    /// The first of the messages that are left on that server, or None where none is left. In want of memory, where one is left, nothing
+    /// changes.
     pub fn next(&mut self, alloc: Global, server: &Server) -> Result<Option<Message>, NoMemory>
         ensures given { IfOk result (λ message. left_on self.old server.now ≡ option_to_list message ++ left_on self.new server.now) }
         ensures none { IfOk result (λ message. message ≡ None → left_on self.old server.now ≡ []) }
+        ensures wanting { OnErr result (left_on self.old server.now ≢ []) }
         ensures others { self.new ≡ record self.old { left = self.new.left } }
         ensures unchanged { OnErr result (self.new ≡ self.old) }
     {

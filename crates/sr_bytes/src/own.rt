@@ -54,12 +54,13 @@ impl<'a> SpanView<'a> {
 }
 
 impl<'a> RowView<'a> {
-    /// The cells that are left, in memory of their own.
-    pub fn to_row(mut self, alloc: Global) -> Result<Row, NoMemory>
-        ensures { IfOk result (λ row. row ≡ self.entry) }
+    /// The cells that are left, in memory of their own, which is one block but for their texts. The view goes on as it was.
+    pub fn to_row(&self, alloc: Global) -> Result<Row, NoMemory>
+        ensures { IfOk result (λ row. row ≡ self.now) }
     {
-        let mut row = Row::new(alloc);
-        while let Some(cell) = self.next() {
+        let mut cells = self.again();
+        let mut row = Row::with_room(alloc, self.cells as usize)?;
+        while let Some(cell) = cells.next() {
             row.push(cell.to_cell(alloc)?)?;
         }
         Ok(row)

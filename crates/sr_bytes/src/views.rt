@@ -1,5 +1,5 @@
 //! Cells, rows, spans and rects in the bytes that spell them.
-ghost use Rattle.std.specs.Prelude.{◌≡◌, ℕ, List, [], ◌++◌, option_to_list, IfNone};
+ghost use Rattle.std.specs.Prelude.{◌≡◌, ℕ, List, [], ◌++◌, option_to_list, slice_get, IfNone};
 ghost use Rattle.std.specs.Option.{option_map};
 ghost use Rattle.sr_bytes.specs.Reading.{a_cell, a_key, a_row, some_rows, a_span, a_span_of, a_rect, some_rects, many, items};
 ghost use Rattle.sr_bytes.specs.Views.{Reads, cell_of, span_of};
@@ -46,7 +46,7 @@ pub enum SpanView<'a> {
 /// The cells that are left of a row.
 #[derive(Drop)]
 pub struct RowView<'a> {
-    cells: u32,
+    pub(crate) cells: u32,
     bytes: Cursor<'a>,
 }
 
@@ -114,6 +114,31 @@ impl<'a> Model for RectsView<'a> {
 }
 
 impl<'a> RowView<'a> {
+    /// The same cells, to be gone through by themselves.
+    pub fn again(&self) -> RowView<'a>
+        ensures { result ≡ self.now }
+    {
+        RowView {
+            cells: self.cells,
+            bytes: Cursor::over(self.bytes.left()),
+        }
+    }
+
+    /// The cell of that place, counted from 0, or None where there are no more than so many; takes no memory.
+    pub fn cell(&self, n: usize) -> Option<CellView<'a>>
+        ensures { option_map cell_of result ≡ slice_get self.now n }
+    {
+        let mut cells = self.again();
+        let mut before = n;
+        while let Some(cell) = cells.next() {
+            if before == 0 {
+                return Some(cell);
+            }
+            before -= 1;
+        }
+        None
+    }
+
     /// The next cell, or None where none is left.
     pub fn next(&mut self) -> Option<CellView<'a>>
         ensures first { self.old ≡ option_to_list (option_map cell_of result) ++ self.new }

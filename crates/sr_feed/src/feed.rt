@@ -10,6 +10,7 @@ use crate::fetched::Fetched;
 use sr_cell::list::{No, NoMemory};
 use sr_io::outside::Link;
 use sr_wire::frame::{Frame, decode};
+use sr_wire::unread::let_go;
 use sr_wire::wire_fault::WireFault;
 use std::alloc::Global;
 use std::marker::Model;
@@ -52,17 +53,10 @@ impl Feed {
         self.bytes.len() - self.read
     }
 
-    // Lets go of what was read, once that is at least as much as what is left: so a byte is moved a few times at most for each byte
-    // that is read, and what is kept is at most twice what is left.
     fn let_go(&mut self)
         ensures { self.new ≡ self.old }
     {
-        let rest = self.bytes.len() - self.read;
-        if self.read >= rest {
-            self.bytes.rotate_left(self.read);
-            self.bytes.truncate(rest);
-            self.read = 0;
-        }
+        let_go(&mut self.bytes, &mut self.read);
     }
 
     /// Takes the next piece of the stream. Out of memory nothing changes.

@@ -1,7 +1,6 @@
-//! Streams of bytes as frames, and queues of messages as such bytes.
+//! Streams of bytes as frames.
 #![tactic(auto)]
 
 pub mod feed;
 pub mod fetched;
 pub mod laws;
-pub mod queue;

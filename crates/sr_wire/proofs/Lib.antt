@@ -7,3 +7,4 @@ pub mod Encoding
 pub mod Staying
 pub mod Sizes
 pub mod Holdings
+pub mod Queues

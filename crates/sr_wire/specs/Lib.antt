@@ -6,3 +6,5 @@ pub mod Views
 pub mod Bodies
 pub mod Examples
 pub mod Laws
+pub mod Queues
+pub mod Taken

@@ -26,12 +26,12 @@ use crate::lines::{
 use sr_cell::list::{No, NoMemory, Seq};
 use sr_cell::schema::Schema;
 use sr_client::client::Client;
-use sr_feed::queue::Queue;
 use sr_message::message::{Message, Messages};
 use sr_policy::policy::Limits;
 use sr_query::query::Query;
 use sr_script::line::{TraceLine, TraceLines};
 use sr_server::server::Server;
+use sr_wire::queue::Queue;
 use std::alloc::Global;
 
 /// A client, the frames on their way to the server, and those on their way to the client; the oldest first.

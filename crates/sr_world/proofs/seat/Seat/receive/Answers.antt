@@ -7,7 +7,7 @@ use Rattle.sr_lines.specs.Events.{DoToClient}
 use Rattle.sr_runs.specs.Runs.{Acts}
 use Rattle.sr_world.specs.Seats.{SeatGoes}
 use Rattle.sr_world.proofs.ClientLemmas.{receive-goes, receive-idles, receive-lightens, took-sendable}
-use Rattle.sr_feed.proofs.Frames.{first}
+use Rattle.sr_wire.proofs.Queues.{first}
 use Rattle.sr_world.proofs.seat.Seat.receive.Goals as goal
 
 pub returns-in_default-clause-goes : goal.returns-in_default-clause-goes

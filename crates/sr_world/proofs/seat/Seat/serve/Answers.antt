@@ -6,7 +6,7 @@ use Rattle.sr_script.specs.declared.line.TraceLine.TheVariants as line
 use Rattle.sr_lines.specs.Events.{DoToServer}
 use Rattle.sr_runs.specs.Runs.{Acts}
 use Rattle.sr_world.specs.Seats.{SeatGoes}
-use Rattle.sr_feed.proofs.Frames.{first}
+use Rattle.sr_wire.proofs.Queues.{first}
 use Rattle.sr_world.proofs.ServeLemmas.{oldest-fits, serve-goes, serve-idles}
 use Rattle.sr_world.proofs.seat.Seat.serve.Goals as goal
 

@@ -4,7 +4,7 @@ use Rattle.std.specs.Prelude.{option_to_list, IsTrue, OnOk, OnErr, Result, Ok, E
 use Rattle.std.specs.List.{flat_map, list_all}
 use Rattle.std.specs.Cmp.Derive.{both_true}
 use Rattle.std.proofs.lemmas.Bool.{and_parts}
-use Rattle.std.proofs.lemmas.List.{drop_at, length-append}
+use Rattle.std.proofs.lemmas.List.{drop_at, drop-drop, length-append, length-drop}
 use Rattle.std.proofs.lemmas.List.Concat.{flat_map-cons}
 use Rattle.std.proofs.lemmas.List.Folds.{list_all-append}
 use Rattle.std.proofs.lemmas.Grind.{flat_map-append}
@@ -14,7 +14,7 @@ use Rattle.sr_wire.specs.Reading.{Whole, decoded}
 use Rattle.sr_wire.specs.Spelling.{spelling, has_spelling, body_of}
 use Rattle.sr_wire.proofs.Frames.{decoded_again, count_length}
 use Rattle.sr_bytes.specs.Spelling.{count_bytes}
-use Rattle.sr_feed.specs.Frames.{then_others, frames_of, messages_in, AreFramesOf}
+use Rattle.sr_wire.specs.Queues.{then_others, frames_of, messages_in, AreFramesOf}
 
 some_bytes : (m : Message) → 0 < length (spelling m)
 some_bytes m = omega (arith, count_length (length (body_of m)), length-append (count_bytes (length (body_of m))) (body_of m))
@@ -141,13 +141,18 @@ passed_message bytes new m size are front e =
     let first = is_first bytes m size are front in
     first.first ∙ ap (λ ms. m ∷ ms) (sym (ap messages_in e ∙ are_in (drop size bytes) first.messages first.others))
 
--- all bytes are passed over
-pub all_passed : (bytes new : List ℕ) (left : ℕ) → left ≡ length bytes → new ≡ drop left bytes → new ≡ []
-all_passed bytes new left is e = e ∙ (ap (λ n. drop n bytes) is ∙ drop_all bytes)
-  where
-    drop_all : (bytes : List ℕ) → drop (length bytes) bytes ≡ []
-    drop_all [] = refl
-    drop_all (b ∷ bytes) = drop_all bytes
+-- bytes of which the first few are read, once the frame in front of the others is read too
+pub popped_frames : (items left : List ℕ) (read : ℕ) (m : Message) (size : ℕ) → read ≤ length items → left ≡ drop read items → AreFramesOf (drop read items) (messages_in (drop read items))
+    → decoded left ≡ Whole m size → size ≤ length left → (read + size ≤ length items) × AreFramesOf (drop (read + size) items) (messages_in (drop (read + size) items))
+popped_frames items left read m size le is are front within = (
+  omega (arith, length-drop read items, ap length is, within, le),
+  passed_frames (drop read items) (drop (read + size) items) m size are (ap decoded (sym is) ∙ front) (sym (drop-drop size read items)),
+)
+
+pub popped_message : (items left : List ℕ) (read : ℕ) (m : Message) (size : ℕ) → left ≡ drop read items → AreFramesOf (drop read items) (messages_in (drop read items))
+    → decoded left ≡ Whole m size → messages_in (drop read items) ≡ m ∷ messages_in (drop (read + size) items)
+popped_message items left read m size is are front =
+    passed_message (drop read items) (drop (read + size) items) m size are (ap decoded (sym is) ∙ front) (sym (drop-drop size read items))
 
 -- what was taken stood first
 pub first : (found : Option Message) (m : Message) (all queue : List Message) → found ≡ Some m → all ≡ option_to_list found ++ queue → all ≡ m ∷ queue

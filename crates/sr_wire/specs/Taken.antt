@@ -2,7 +2,7 @@
 use Rattle.std.specs.Prelude.{◌≡◌, ◌≤◌, ℕ, List, length, Option, Some, None}
 use Rattle.sr_message.specs.declared.message.Message.{Message}
 use Rattle.sr_wire.specs.Reading.{Whole, decoded}
-use Rattle.sr_feed.specs.declared.queue.Front.{Front}
+use Rattle.sr_wire.specs.declared.queue.Front.{Front}
 
 -- the frame of this message, of so many bytes; or no frame
 abbrev pub IsInFront : List ℕ → Option Front → Type 0

@@ -1,33 +1,36 @@
 //! A queue of messages, as the bytes of their frames.
-ghost use Rattle.std.specs.Prelude.{◌≡◌, ℕ, ◌≤◌, ◌++◌, take, [], ◌∷◌, ◌↔◌, length, option_to_list, IsTrue, IfNone, IfOk, OnOk, OnErr};
+ghost use Rattle.std.specs.Prelude.{◌≡◌, ℕ, ◌≤◌, ◌++◌, take, drop, [], ◌∷◌, ◌↔◌, length, option_to_list, IsTrue, IfNone, IfOk, OnOk, OnErr};
 ghost use Rattle.std.specs.List.{All};
 ghost use Rattle.sr_wire.specs.Limits.{IsSendable};
-ghost use Rattle.sr_feed.specs.Taken.{IsInFront};
+ghost use Rattle.sr_wire.specs.Taken.{IsInFront};
 
-use crate::feed::Feed;
+use crate::encode::encode;
+use crate::frame::{Frame, decode};
+use crate::unread::{left_of, let_go};
+use crate::walk::Frames;
 use sr_cell::list::NoMemory;
 use sr_message::message::{Message, Messages};
-use sr_wire::encode::encode;
 use std::alloc::Global;
 use std::marker::Model;
 
-/// Messages on their way, the oldest first: the bytes of their frames, one behind the other.
+/// Messages on their way, the oldest first: the bytes of their frames, one behind the other, behind those of frames that are taken out.
 #[derive(Drop)]
 pub struct Queue {
-    frames: Feed,
+    bytes: Vec<u8>,
+    read: usize,
 }
 
 impl Model for Queue {
-    ghost use Rattle.std.specs.Prelude.{List};
+    ghost use Rattle.std.specs.Prelude.{List, drop, length, ◌≤◌};
     ghost use Rattle.sr_message.specs.declared.message.Message.{Message};
 
     ghost Value = { List Message };
 
-    ghost use Rattle.sr_feed.specs.Frames.{messages_in, AreFrames};
+    ghost use Rattle.sr_wire.specs.Queues.{messages_in, AreFrames};
 
-    ghost view = { λ q. messages_in q.frames };
+    ghost view = { λ q. messages_in (drop q.read q.bytes.items) };
 
-    ghost invariant = { λ q. AreFrames q.frames };
+    ghost invariant = { λ q. (q.read ≤ length q.bytes.items) × AreFrames (drop q.read q.bytes.items) };
 }
 
 /// The message in front, and how many bytes its frame has.
@@ -43,7 +46,8 @@ impl Queue {
         ensures { result ≡ [] }
     {
         Queue {
-            frames: Feed::new(alloc),
+            bytes: Vec::new(alloc),
+            read: 0,
         }
     }
 
@@ -51,7 +55,7 @@ impl Queue {
     pub fn is_empty(&self) -> bool
         ensures { IsTrue result ↔ (self.now ≡ []) }
     {
-        self.frames.left() == 0
+        self.bytes.len() == self.read
     }
 
     /// One message more, behind the others. Out of memory nothing changes.
@@ -61,7 +65,22 @@ impl Queue {
         ensures unchanged { OnErr result (self.new ≡ self.old) }
     {
         let frame = encode(alloc, message)?;
-        self.frames.feed(frame.as_slice())
+        add(&mut self.bytes, &mut self.read, frame.as_slice())
+    }
+
+    /// A frame more behind the others, as a copy of its bytes. Out of memory nothing changes.
+    pub fn lay(&mut self, frame: &Frame<'_>) -> Result<(), NoMemory>
+        ensures laid { OnOk result (self.new ≡ self.old ++ frame.now ∷ []) }
+        ensures unchanged { OnErr result (self.new ≡ self.old) }
+    {
+        add(&mut self.bytes, &mut self.read, frame.bytes())
+    }
+
+    /// The frames one by one, lent in the queue's bytes; takes no memory.
+    pub fn frames(&self) -> Frames<'_>
+        ensures { result ≡ self.now }
+    {
+        Frames::over(left_of(self.bytes.as_slice(), self.read))
     }
 
     /// These messages behind the others; out of memory only the first few of them.
@@ -82,10 +101,10 @@ impl Queue {
         ensures empty { IfOk result (λ message. IfNone message (self.old ≡ [])) }
         ensures unchanged { OnErr result (self.new ≡ self.old) }
     {
-        match front_of(alloc, &self.frames)? {
+        match front_of(alloc, left_of(self.bytes.as_slice(), self.read))? {
             None => Ok(None),
             Some(Front { message, size }) => {
-                self.frames.pass(size);
+                self.read += size;
                 Ok(Some(message))
             }
         }
@@ -95,20 +114,32 @@ impl Queue {
     pub fn clear(&mut self)
         ensures { self.new ≡ [] }
     {
-        let left = self.frames.left();
-        self.frames.pass(left);
+        self.bytes.clear();
+        self.read = 0;
     }
 }
 
-/// The message whose frame stands in front, if one does.
-fn front_of(alloc: Global, frames: &Feed) -> Result<Option<Front>, NoMemory>
-    ensures front { IfOk result (IsInFront frames.now) }
+/// A frame more behind bytes of which the first few are read; what was read may be let go.
+fn add(bytes: &mut Vec<u8>, read: &mut usize, frame: &[u8]) -> Result<(), NoMemory>
+    requires { read.old ≤ length bytes.old.items }
+    ensures within { read.new ≤ length bytes.new.items }
+    ensures added { OnOk result (drop read.new bytes.new.items ≡ drop read.old bytes.old.items ++ frame.now) }
+    ensures unchanged { OnErr result (drop read.new bytes.new.items ≡ drop read.old bytes.old.items) }
 {
-    match frames.front() {
-        Ok(Some(frame)) => Ok(Some(Front {
+    let_go(bytes, read);
+    bytes.extend_from_slice(frame)?;
+    Ok(())
+}
+
+/// The message whose frame stands in front, if one does.
+fn front_of(alloc: Global, bytes: &[u8]) -> Result<Option<Front>, NoMemory>
+    ensures front { IfOk result (IsInFront bytes.now) }
+{
+    match decode(bytes) {
+        Ok(frame) => Ok(Some(Front {
             message: frame.message(alloc)?,
             size: frame.size(),
         })),
-        _ => Ok(None),
+        Err(_) => Ok(None),
     }
 }

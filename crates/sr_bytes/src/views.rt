@@ -3,12 +3,13 @@ ghost use Rattle.std.specs.Prelude.{◌≡◌, ℕ, List, [], ◌++◌, option_t
 ghost use Rattle.std.specs.Option.{option_map};
 ghost use Rattle.sr_bytes.specs.Reading.{a_cell, a_key, a_row, some_rows, a_span, a_span_of, a_rect, some_rects, many, items};
 ghost use Rattle.sr_bytes.specs.Views.{Reads, cell_of, span_of};
+ghost use Rattle.sr_cell.specs.Cells.{cell_le, is_null};
 
 use crate::cursor::{BadField, Cursor};
 use crate::item::{Item, next_item, skip_items};
 use sr_box::rect::Rect;
 use sr_box::span::Span;
-use sr_cell::cell::{Cell, Row};
+use sr_cell::cell::{Cell, Row, is_text_at_most};
 use std::marker::Model;
 
 /// The most columns of a table.
@@ -111,6 +112,43 @@ impl<'a> Model for RectsView<'a> {
     ghost use Rattle.sr_bytes.specs.Reading.{a_rect, items};
 
     ghost view = { λ r. items a_rect r.rects r.bytes };
+}
+
+impl<'a> CellView<'a> {
+    /// The view of a cell that stands in memory; takes no memory.
+    pub fn of(cell: &'a Cell) -> CellView<'a>
+        ensures { cell_of result ≡ cell.now }
+    {
+        match cell {
+            Cell::Num(number) => CellView::Num(*number),
+            Cell::Str(text) => CellView::Str(text.as_str()),
+            Cell::Null => CellView::Null,
+        }
+    }
+
+    /// Whether the cell is of the other's kind and not above it; each cell is at most Null.
+    pub fn is_at_most(&self, other: &CellView<'_>) -> bool
+        ensures { result ≡ cell_le (cell_of self.now) (cell_of other.now) }
+    {
+        match (self, other) {
+            (CellView::Num(one), CellView::Num(two)) => *one <= *two,
+            (CellView::Str(one), CellView::Str(two)) => {
+                is_text_at_most(one.as_bytes(), two.as_bytes())
+            }
+            (_, CellView::Null) => true,
+            _ => false,
+        }
+    }
+
+    /// Whether there is no value.
+    pub fn is_null(&self) -> bool
+        ensures { result ≡ is_null (cell_of self.now) }
+    {
+        match self {
+            CellView::Null => true,
+            _ => false,
+        }
+    }
 }
 
 impl<'a> RowView<'a> {

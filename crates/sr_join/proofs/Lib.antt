@@ -5,3 +5,5 @@ pub mod Finds
 pub mod Halves
 pub mod Lists
 pub mod Shows
+pub mod Cells
+pub mod Rows

@@ -1,5 +1,5 @@
 -- What is lent of the parts of a query.
-use Rattle.std.specs.Prelude.{ℕ, Bool, true, ◌==◌, ◌+◌, List, [], ◌∷◌, map, ◌≡◌, if◌then◌else◌}
+use Rattle.std.specs.Prelude.{ℕ, Bool, true, false, ◌==◌, ◌+◌, List, [], ◌∷◌, ◌++◌, map, ◌≡◌, if◌then◌else◌}
 use Rattle.std.specs.List.{list_any, list_all, All, AllZip}
 use Rattle.sr_cell.specs.declared.table.Table.{Table}
 use Rattle.sr_cell.specs.Columns.{table_at}
@@ -22,6 +22,22 @@ shown_of coming = map (λ cells. record { attrs = coming.attrs; cells = cells })
 -- what a run has of that part
 abbrev pub rows_for : ℕ → Run → List Shown
 rows_for part run = if run.part == part then run.rows else []
+
+-- the row behind those of the last run
+abbrev pub with_row_last : Shown → List Run → List Run
+with_row_last s [] = []
+with_row_last s (run ∷ []) = record run { rows = run.rows ++ s ∷ [] } ∷ []
+with_row_last s (run ∷ next ∷ runs) = run ∷ with_row_last s (next ∷ runs)
+
+-- whether the last run is of that part
+abbrev pub ends_with : ℕ → List Run → Bool
+ends_with part [] = false
+ends_with part (run ∷ []) = run.part == part
+ends_with part (run ∷ next ∷ runs) = ends_with part (next ∷ runs)
+
+-- the row behind those of the last run where that is of the part, else in a run of its own
+abbrev pub with_row : ℕ → Shown → List Run → List Run
+with_row part s runs = if ends_with part runs then with_row_last s runs else runs ++ record { part = part; rows = s ∷ [] } ∷ []
 
 -- Of a table's rows those that pass the test, each once or more often: each list has those that pass a test of its own.
 pub record AreLent (need : ℕ) (all : List Row) (test : Row → Bool) (lists : List (List Shown)) : Type 0 where

@@ -1,3 +1,4 @@
 pub mod Joins
 pub mod Lent
 pub mod Shown
+pub mod Lendable

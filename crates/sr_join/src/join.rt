@@ -1,10 +1,12 @@
 //! Rows of several parts, joined by key.
 ghost use Rattle.std.specs.Prelude.{◌≡◌, true, [], ◌∷◌, map, filter, slice_get, option_to_list, if◌then◌else◌, IfOk};
+ghost use Rattle.sr_bytes.specs.Views.{cell_of as cell_seen};
 ghost use Rattle.sr_cell.specs.Cells.{cell_eq};
 ghost use Rattle.sr_join.specs.Joins.{key_in, join_of, chosen_cell, found_at, rows_with, choices, outputs_of, AreBy, answers_of};
 ghost use Rattle.sr_join.specs.Shown.{cell_of, are_by};
 
 use crate::shown::Shown;
+use sr_bytes::views::CellView;
 use sr_cell::cell::{Cell, Row, Rows};
 use sr_cell::list::{NoMemory, Seq};
 use sr_query::condition::Output;
@@ -12,8 +14,8 @@ use sr_query::query::{KeyJoin, Part, Query};
 use std::alloc::Global;
 
 /// The row with that key, if there is one.
-fn row_with<'a>(rows: &[Shown<'a>], key: usize, cell: &Cell) -> Option<Shown<'a>>
-    ensures { are_by key rows.now ≡ true → option_to_list result ≡ filter (λ s. cell_eq (cell_of key s) cell.now) rows.now }
+fn row_with<'a>(rows: &[Shown<'a>], key: usize, cell: &CellView<'_>) -> Option<Shown<'a>>
+    ensures { are_by key rows.now ≡ true → option_to_list result ≡ filter (λ s. cell_eq (cell_of key s) (cell_seen cell.now)) rows.now }
 {
     let place = rows.partition_point(|row| row.is_at_most(key, cell));
     if place > 0 && rows[place - 1].is_at_least(key, cell) {
@@ -34,8 +36,13 @@ fn key_at(parts: &[Part], part: usize) -> usize
 }
 
 /// The row of that part with that key, if there is one.
-fn row_at<'a>(found: &[Seq<Shown<'a>>], part: usize, key: usize, cell: &Cell) -> Option<Shown<'a>>
-    ensures { are_by key (found_at found.now part) ≡ true → option_to_list result ≡ filter (λ s. cell_eq (cell_of key s) cell.now) (found_at found.now part) }
+fn row_at<'a>(
+    found: &[Seq<Shown<'a>>],
+    part: usize,
+    key: usize,
+    cell: &CellView<'_>,
+) -> Option<Shown<'a>>
+    ensures { are_by key (found_at found.now part) ≡ true → option_to_list result ≡ filter (λ s. cell_eq (cell_of key s) (cell_seen cell.now)) (found_at found.now part) }
 {
     match found.get(part) {
         Some(rows) => row_with(rows.as_slice(), key, cell),
@@ -44,8 +51,13 @@ fn row_at<'a>(found: &[Seq<Shown<'a>>], part: usize, key: usize, cell: &Cell) ->
 }
 
 /// The row of that part whose key equals the cell, if there is one; Null equals none.
-fn row_of<'a>(found: &[Seq<Shown<'a>>], part: usize, key: usize, cell: &Cell) -> Option<Shown<'a>>
-    ensures { are_by key (found_at found.now part) ≡ true → option_to_list result ≡ rows_with found.now part key cell.now }
+fn row_of<'a>(
+    found: &[Seq<Shown<'a>>],
+    part: usize,
+    key: usize,
+    cell: &CellView<'_>,
+) -> Option<Shown<'a>>
+    ensures { are_by key (found_at found.now part) ≡ true → option_to_list result ≡ rows_with found.now part key (cell_seen cell.now) }
 {
     if cell.is_null() {
         return None;
@@ -69,7 +81,6 @@ fn chosen_cell<'a>(
 }
 
 /// The row of that part whose key is the cell of that column of another row, if there is one.
-#[tactic(auto, using(sr_rows::proofs::Order::cell_at_absent))]
 fn row_beside<'a>(
     found: &[Seq<Shown<'a>>],
     part: usize,
@@ -79,10 +90,7 @@ fn row_beside<'a>(
 ) -> Option<Shown<'a>>
     ensures { are_by key (found_at found.now part) ≡ true → option_to_list result ≡ rows_with found.now part key (cell_of column row.now) }
 {
-    match row.cell(column) {
-        Some(cell) => row_of(found, part, key, cell),
-        None => row_of(found, part, key, &Cell::Num(0)),
-    }
+    row_of(found, part, key, &row.cell(column))
 }
 
 /// The row that joins those that are chosen, if there is one.
@@ -99,7 +107,7 @@ fn joined<'a>(
     let key = key_at(parts, right);
     match chosen.get(join.left as usize) {
         Some(row) => row_beside(found, right, key, row, join.column as usize),
-        None => row_of(found, right, key, &Cell::Num(0)),
+        None => row_of(found, right, key, &CellView::Num(0)),
     }
 }
 

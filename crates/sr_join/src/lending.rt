@@ -7,12 +7,14 @@ ghost use Rattle.sr_model.specs.Queries.{Query as TheQuery, rows_of};
 ghost use Rattle.sr_model.specs.SortedRows.{ascend};
 ghost use Rattle.sr_model.specs.Statements.{Tables};
 ghost use Rattle.sr_join.specs.Joins.{found_at, key_in};
-ghost use Rattle.sr_join.specs.Lent.{shown_of, rows_for, AreLent, LendFrom, IsJoinable};
+ghost use Rattle.sr_join.specs.Lent.{shown_of, rows_for, ends_with, with_row, with_row_last, AreLent, LendFrom, IsJoinable};
 ghost use Rattle.sr_join.specs.Shown.{AreShown};
 
 use crate::join::join_all;
 use crate::runs::{Run, by_key};
 use crate::shown::Shown;
+use sr_bytes::views::RowView;
+use sr_cell::attrs::Attrs;
 use sr_cell::cell::Rows;
 use sr_cell::list::{NoMemory, Seq};
 use sr_query::query::{Part, Query};
@@ -47,6 +49,35 @@ impl<'a> Lending<'a> {
         self.runs.push(run)
     }
 
+    /// Begins a run of that part, to which rows are lent one by one.
+    pub fn begin(&mut self, alloc: Global, part: usize) -> Result<(), NoMemory>
+        ensures begun { OnOk result (self.new.runs ≡ self.old.runs ++ record { part = part; rows = [] } ∷ []) }
+        ensures unchanged { OnErr result (self.new ≡ self.old) }
+    {
+        let rows = Seq::new(alloc);
+        self.runs.push(Run { part, rows })
+    }
+
+    /// Lends a row of a part in the bytes that spell it, behind those of the last run where that is of the part, else in a run of
+    /// its own.
+    pub fn lend_view(
+        &mut self,
+        alloc: Global,
+        part: usize,
+        attrs: Attrs,
+        row: RowView<'a>,
+    ) -> Result<(), NoMemory>
+        ensures lent { OnOk result (self.new.runs ≡ with_row part (record { attrs = attrs; cells = row.entry }) self.old.runs) }
+        ensures unchanged { OnErr result (self.new ≡ self.old) }
+    {
+        let shown = Shown::of_view(attrs, row);
+        if ends_with(self.runs.as_slice(), part) {
+            add_to_last(alloc, &mut self.runs, shown)
+        } else {
+            add_run(alloc, &mut self.runs, part, shown)
+        }
+    }
+
     /// The answer of a query, of whose parts these rows were lent.
     pub fn answer(self, alloc: Global, query: &Query) -> Result<Rows, NoMemory>
         ensures { (schema : List Table) (tables : Tables) (meaning : TheQuery) → IfOk result (λ answer. IsJoinable schema tables query.now meaning
@@ -55,6 +86,51 @@ impl<'a> Lending<'a> {
         let found = found_of(alloc, query.parts.as_slice(), self.runs.as_slice())?;
         join_all(alloc, query, found.as_slice())
     }
+}
+
+/// Whether the last run is of that part.
+#[tactic(auto, using(crate::proofs::Rows::ends_last, crate::proofs::Rows::ends_none, crate::proofs::Rows::some_last))]
+fn ends_with<'a>(runs: &[Run<'a>], part: usize) -> bool
+    ensures last { result ≡ ends_with part runs.now }
+    ensures some { result ≡ true → 0 < length runs.now }
+{
+    match runs.last() {
+        Some(run) => run.part == part,
+        None => false,
+    }
+}
+
+/// A run of one row more.
+fn add_run<'a>(
+    alloc: Global,
+    runs: &mut Seq<Run<'a>>,
+    part: usize,
+    shown: Shown<'a>,
+) -> Result<(), NoMemory>
+    ensures added { OnOk result (runs.new ≡ runs.old ++ record { part = part; rows = shown.entry ∷ [] } ∷ []) }
+    ensures unchanged { OnErr result (runs.new ≡ runs.old) }
+{
+    let mut rows = Seq::new(alloc);
+    rows.push(shown)?;
+    runs.push(Run { part, rows })
+}
+
+/// A row more at the end of the last run.
+fn add_to_last<'a>(alloc: Global, runs: &mut Seq<Run<'a>>, shown: Shown<'a>) -> Result<(), NoMemory>
+    requires { 0 < length runs.old }
+    ensures added { OnOk result (runs.new ≡ with_row_last shown.entry runs.old) }
+    ensures unchanged { OnErr result (runs.new ≡ runs.old) }
+{
+    let last = runs.len() - 1;
+    let none = Run {
+        part: 0,
+        rows: Seq::new(alloc),
+    };
+    // taken out for a moment, so that putting it back takes no memory
+    let mut run = runs.replace(last, none);
+    let pushed = run.rows.push(shown);
+    runs.replace(last, run);
+    pushed
 }
 
 fn shown_of<'a>(alloc: Global, rows: RowsIn<'a>) -> Result<Seq<Shown<'a>>, NoMemory>

@@ -21,13 +21,13 @@ use Rattle.sr_links.specs.Honest.{Input, Rests, Server, server_at_last}
 use Rattle.sr_links.proofs.DatabaseLemmas.{last-more, sound-before}
 use Rattle.sr_server.specs.Servers.{Gives}
 use Rattle.sr_talk.specs.Rounds.{at_rest}
-use Rattle.sr_dial.specs.Honest.{IsTrue}
-use Rattle.sr_dial.specs.Served.{HaveInputs}
-use Rattle.sr_dial.proofs.ServedLemmas.{served-calls-are-explained}
-use Rattle.sr_dial.proofs.HonestLemmas.{are-asked}
-use Rattle.sr_dial.proofs.LimitLemmas.{scripts-few}
-use Rattle.sr_dial.proofs.TrueLemmas.{honest-runs-are-true}
-use Rattle.sr_dial.proofs.TrueLemmas as dial
+use Rattle.sr_dial_laws.specs.Honest.{IsTrue}
+use Rattle.sr_dial_laws.specs.Served.{HaveInputs}
+use Rattle.sr_dial_laws.proofs.ServedLemmas.{served-calls-are-explained}
+use Rattle.sr_dial_laws.proofs.HonestLemmas.{are-asked}
+use Rattle.sr_dial_laws.proofs.LimitLemmas.{scripts-few}
+use Rattle.sr_dial_laws.proofs.TrueLemmas.{honest-runs-are-true}
+use Rattle.sr_dial_laws.proofs.TrueLemmas as dial
 use Rattle.sr_calls.specs.ClientEnds.{End, HasTold, IsEnd, setting_of}
 use Rattle.sr_calls.specs.Honest.{BrokenRunsGoByTold, HonestRunsAreShort, HonestRunsAreTrue, NewHonestRunsAreShort, NewHonestRunsAreTrue, RunsFromAnyClientGoByTold, RunsGoByTold, ScriptsAreAskedFor, ScriptsAskFew, ServedRunsAreTrue}
 use Rattle.sr_calls.specs.Runs.{new_end, new_past}

@@ -25,7 +25,7 @@ use Rattle.sr_client.proofs.TableLemmas.{have-first}
 use Rattle.sr_links.specs.Honest.{Rests, server_at_last}
 use Rattle.sr_links.proofs.DatabaseLemmas.{last-more, sound-before}
 use Rattle.sr_dial.specs.Calls.{Call}
-use Rattle.sr_dial.specs.Honest.{IsHonest, IsTrue}
+use Rattle.sr_dial_laws.specs.Honest.{IsHonest, IsTrue}
 use Rattle.sr_calls.specs.ClientEnds.{End, IsEnd, end_with}
 use Rattle.sr_calls.specs.Started.{StartedRunsAreTrue}
 use Rattle.sr_calls.proofs.HonestLemmas.{runs-from-any-client-are-true}

@@ -21,9 +21,9 @@ use Rattle.sr_links.specs.Steps.{Resumed}
 use Rattle.sr_plan.specs.Plans.{Plan, AllTasks, plan_of}
 use Rattle.sr_dial.specs.Calls.{Task, Do, all_done, steps_in}
 use Rattle.sr_talk.specs.Serving.{Conversation}
-use Rattle.sr_dial.specs.Honest.{AsksFew, IsAskedFor, IsHonest, IsTrue}
+use Rattle.sr_dial_laws.specs.Honest.{AsksFew, IsAskedFor, IsHonest, IsTrue}
 use Rattle.sr_dial.specs.Known.{AreTasks}
-use Rattle.sr_dial.specs.Served.{AreServedCalls}
+use Rattle.sr_dial_laws.specs.Served.{AreServedCalls}
 use Rattle.sr_dial.specs.Statuses.{status_of}
 use Rattle.sr_dial.specs.declared.ending.Ending.{Ending}
 use Rattle.sr_dial.specs.declared.parts.Answer.{Answer}

@@ -14,7 +14,7 @@ use Rattle.sr_client.specs.declared.client.Client.{Client}
 use Rattle.sr_links.specs.Honest.{Server, Input, server_at_last}
 use Rattle.sr_plan.specs.Plans.{Plan, AllTasks}
 use Rattle.sr_dial.specs.Calls.{Task}
-use Rattle.sr_dial.specs.Honest.{IsAskedFor, IsHonest, IsTrue}
+use Rattle.sr_dial_laws.specs.Honest.{IsAskedFor, IsHonest, IsTrue}
 use Rattle.sr_dial.specs.declared.ending.Ending.{Ending}
 use Rattle.sr_dial.specs.declared.parts.Answer.{Answer}
 use Rattle.sr_calls.specs.ClientEnds.{End, end_with}

@@ -7,7 +7,7 @@ use Rattle.sr_calls.proofs.StartedLemmas.{started-runs-are-true}
 use Rattle.sr_cell.specs.declared.table.Table.{Table}
 use Rattle.sr_dial.specs.Calls.{Do, Task, all_done}
 use Rattle.sr_dial.specs.Following.{Ahead}
-use Rattle.sr_dial.specs.Honest.{IsAskedFor}
+use Rattle.sr_dial_laws.specs.Honest.{IsAskedFor}
 use Rattle.sr_dial.specs.declared.parts.Answer.{Answer}
 use Rattle.sr_keyset.proofs.Asking.{files-ask-for-none}
 use Rattle.sr_keyset.proofs.Right.{key-sets-are-right}

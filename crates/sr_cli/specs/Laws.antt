@@ -8,7 +8,7 @@ use Rattle.sr_cell.specs.declared.table.Table.{Table}
 use Rattle.sr_client.specs.Starting.{start_past}
 use Rattle.sr_dial.specs.Calls.{Call, all_done}
 use Rattle.sr_dial.specs.Following.{Ahead}
-use Rattle.sr_dial.specs.Honest.{IsHonest, IsTrue}
+use Rattle.sr_dial_laws.specs.Honest.{IsHonest, IsTrue}
 use Rattle.sr_dial.specs.declared.ending.Ending.{Ending}
 use Rattle.sr_io.specs.Told.{Linking, Writing}
 use Rattle.sr_keyset.specs.Laws as keyset

@@ -14,9 +14,5 @@ pub mod Results
 pub mod SoFarLemmas
 pub mod DeedLemmas
 pub mod SomeLemmas
-pub mod HonestLemmas
-pub mod LimitLemmas
-pub mod TrueLemmas
-pub mod ServedLemmas
 pub mod PlanLemmas
 pub mod OffLemmas

@@ -6,7 +6,4 @@ pub mod Statuses
 pub mod Courses
 pub mod Carrying
 pub mod Jobs
-pub mod Listed
-pub mod Honest
-pub mod Served
 pub mod Clauses

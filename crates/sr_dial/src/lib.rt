@@ -2,7 +2,6 @@
 #![tactic(auto)]
 
 pub mod ending;
-pub mod laws;
 pub mod parts;
 pub mod plans;
 pub mod run;

@@ -5,7 +5,7 @@ use Rattle.sr_cell.specs.declared.fault.Fault.{Fault}
 use Rattle.sr_cell.specs.declared.table.Table.{Table}
 use Rattle.sr_dial.specs.Calls.{Task, Do, Explain, Say}
 use Rattle.sr_dial.specs.Following.{Ahead}
-use Rattle.sr_dial.specs.Honest.{AsksFew, IsAskedFor}
+use Rattle.sr_dial_laws.specs.Honest.{AsksFew, IsAskedFor}
 use Rattle.sr_dial.specs.declared.parts.Answer.{Answer}
 use Rattle.sr_grammar.specs.Trees.{Statement}
 use Rattle.sr_keyset.specs.Laws.{FilesAskFew, FilesAskForNone, TasksAreAskedFor}

@@ -6,7 +6,7 @@ use Rattle.sr_answers.specs.Answers.{IsTold}
 use Rattle.sr_answers.specs.Texts.{AllSaid, SaysSuch}
 use Rattle.sr_dial.specs.Calls.{Task, Do, Done, one_if, steps_in}
 use Rattle.sr_dial.specs.Following.{Ahead, dids_of}
-use Rattle.sr_dial.specs.Honest.{AsksFew, IsAskedFor}
+use Rattle.sr_dial_laws.specs.Honest.{AsksFew, IsAskedFor}
 use Rattle.sr_dial.specs.Runs.{AreInPlace}
 use Rattle.sr_dial.specs.declared.parts.Answer.{Answer}
 use Rattle.sr_keyset.specs.Lines.{words_in}

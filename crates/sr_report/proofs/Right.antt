@@ -13,7 +13,7 @@ use Rattle.sr_model.specs.Queries.{Query}
 use Rattle.sr_plan.specs.Plans.{Plan, AllTasks}
 use Rattle.sr_setup.specs.ReportFiles.{Saying, Event, Aggregate, sayings}
 use Rattle.sr_dial.specs.Calls.{Task, Do, Say}
-use Rattle.sr_dial.specs.Honest.{AsksFew, IsAskedFor}
+use Rattle.sr_dial_laws.specs.Honest.{AsksFew, IsAskedFor}
 use Rattle.sr_dial.specs.declared.parts.Answer.{Answer}
 use Rattle.sr_answers.proofs.Answered.{some-is}
 use Rattle.sr_agg.specs.Starting.{Plan as Telling}

@@ -12,7 +12,7 @@ use Rattle.sr_links.specs.Steps.{Resumed}
 use Rattle.sr_plan.specs.Plans.{AllTasks, GoBy, Next, begun}
 use Rattle.sr_dial.specs.Calls.{Done, Do, steps_in}
 use Rattle.sr_dial.specs.Following.{Ahead, dids_of}
-use Rattle.sr_dial.specs.Honest.{AsksFew, IsAskedFor}
+use Rattle.sr_dial_laws.specs.Honest.{AsksFew, IsAskedFor}
 use Rattle.sr_dial.specs.Runs.{AreInPlace}
 use Rattle.sr_answers.specs.Texts.{AllSaid}
 use Rattle.sr_agg.specs.declared.agg.AggFault.{AggFault}

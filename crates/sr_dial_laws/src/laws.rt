@@ -1,7 +1,7 @@
 //! Laws of runs of `client`: functions that do nothing, and whose contracts are the laws.
-ghost use Rattle.sr_dial.specs.Honest.{BrokenRunsGoByTold, HonestRunsAreShort, HonestRunsAreTrue, RunsGoByTold};
-ghost use Rattle.sr_dial.specs.Listed.{ListsAreDoneInOrder};
-ghost use Rattle.sr_dial.specs.Served.{ServedCallsAreExplained};
+ghost use Rattle.sr_dial_laws.specs.Honest.{BrokenRunsGoByTold, HonestRunsAreShort, HonestRunsAreTrue, RunsGoByTold};
+ghost use Rattle.sr_dial_laws.specs.Listed.{ListsAreDoneInOrder};
+ghost use Rattle.sr_dial_laws.specs.Served.{ServedCallsAreExplained};
 
 use sr_links::laws::{Hearer, Peer};
 use sr_talk::parts::Serves;

@@ -12,7 +12,7 @@ use Rattle.sr_links.specs.Steps.{requests_of}
 use Rattle.sr_dial.specs.Calls.{Call, done_in, steps_in}
 use Rattle.sr_talk.specs.Rounds.{at_rest}
 use Rattle.sr_talk.specs.Serving.{Conversation, IsServed}
-use Rattle.sr_dial.specs.Honest.{AreExplained, came_over}
+use Rattle.sr_dial_laws.specs.Honest.{AreExplained, came_over}
 use Rattle.sr_dial.specs.Runs.{IsCarried}
 
 -- the ends of one connection: each took a beginning of what the other sent

@@ -19,7 +19,7 @@ use Rattle.sr_links.specs.Honest.{Server, Input, IsPrefix, AreTalks, IsHonest, s
 use Rattle.sr_links.specs.Steps.{Step, Standing, Deed, Queried, Wrote, Evicted, Took, WasCut, Resumed, AreAwaited, AreFair, IsAwaited, code_after, given_of, past_after, taken_by}
 use Rattle.sr_dial.specs.Calls.{Call, Cause, Scripted, Delivered, Failed, Done, Made, Explained, Said, Task, Do, Explain, Say, AreCalls, all_done, done_in, steps_in, talk_of}
 use Rattle.sr_talk.specs.Serving.{spelled}
-use Rattle.sr_dial.specs.Honest.{AreExplained, IsAsked, IsAskedFor}
+use Rattle.sr_dial_laws.specs.Honest.{AreExplained, IsAsked, IsAskedFor}
 use Rattle.sr_dial.specs.Following.{answer_of, did_by, dids_of}
 use Rattle.sr_dial.specs.declared.parts.Answer.{Answer}
 use Rattle.sr_plan.specs.Laws.{AreOf}

@@ -35,14 +35,14 @@ use Rattle.sr_talk.proofs.TalkLemmas.{spelled-append}
 use Rattle.sr_plan.specs.Plans.{begun, left}
 use Rattle.sr_plan.proofs.Going.{are-of}
 use Rattle.sr_dial.specs.Following.{dids_of, stage_by}
-use Rattle.sr_dial.specs.Honest.{AreExplained, AsksFew, BrokenRunsGoByTold, HonestRunsAreShort, HonestRunsAreTrue, IsAskedFor, IsHonest, NamesVersion, NeverFall, RunsGoByTold, came_over}
+use Rattle.sr_dial_laws.specs.Honest.{AreExplained, AsksFew, BrokenRunsGoByTold, HonestRunsAreShort, HonestRunsAreTrue, IsAskedFor, IsHonest, NamesVersion, NeverFall, RunsGoByTold, came_over}
 use Rattle.sr_dial.specs.Runs.{EndsBy, IsRefused, left_by, none_taken, taken_after}
 use Rattle.sr_dial.specs.Statuses.{status_of}
 use Rattle.sr_dial.specs.declared.ending.Ending.{Ending}
 use Rattle.sr_dial.specs.declared.ending.Ending.TheVariants as ending
 use Rattle.sr_dial.proofs.CourseLemmas.{all-step, given-step, requests-step, with_step}
-use Rattle.sr_dial.proofs.HonestLemmas.{AreHeard, are-heard, are-honest, are-talks, heard-append, never-spoiled, talk-steps}
-use Rattle.sr_dial.proofs.LimitLemmas.{ask-few, none-out, taken-few}
+use Rattle.sr_dial_laws.proofs.HonestLemmas.{AreHeard, are-heard, are-honest, are-talks, heard-append, never-spoiled, talk-steps}
+use Rattle.sr_dial_laws.proofs.LimitLemmas.{ask-few, none-out, taken-few}
 use Rattle.sr_dial.proofs.ListLemmas.{fair-append, on-append, steps-append}
 
 -- ---- versions never fall

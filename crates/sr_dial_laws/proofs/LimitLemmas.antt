@@ -25,7 +25,7 @@ use Rattle.sr_plan.specs.Plans.{AllTasks, Did, plan_of}
 use Rattle.sr_plan.specs.Laws.{AreOf}
 use Rattle.sr_dial.specs.Calls.{Cause, Scripted, Delivered, Failed, Done, Made, Explained, Said, Task, Do, Explain, Say, steps_in}
 use Rattle.sr_dial.specs.Following.{answer_of, did_by, dids_of}
-use Rattle.sr_dial.specs.Honest.{AsksFew}
+use Rattle.sr_dial_laws.specs.Honest.{AsksFew}
 use Rattle.sr_dial.specs.Known.{AreTasks, IsDeed, IsTask}
 use Rattle.sr_dial.specs.Runs.{AreInPlace, IsInPlace, anew_if, more_if, more_taken, none_taken, taken_after}
 use Rattle.sr_dial.specs.declared.parts.Answer.{Answer}

@@ -19,10 +19,10 @@ use Rattle.sr_talk.specs.Serving.{Answers, Conversation, SentAs, spelled}
 use Rattle.sr_talk.specs.declared.serve.How.{How}
 use Rattle.sr_talk.specs.declared.serve.How.TheVariants.{End, Torn, Fault as HowFault, Bad, Refused as HowRefused, Limit}
 use Rattle.sr_talk.proofs.TalkLemmas.{spelled-append}
-use Rattle.sr_dial.specs.Honest.{AreExplained, IsExplained, came_over}
+use Rattle.sr_dial_laws.specs.Honest.{AreExplained, IsExplained, came_over}
 use Rattle.sr_dial.specs.Runs.{SentAs as AreSent}
-use Rattle.sr_dial.specs.Served.{HaveInputs, IsServedCall, ServedCallsAreExplained, all_served, goes, unheard, with_another}
-use Rattle.sr_dial.proofs.HonestLemmas.{Fronts, fronts}
+use Rattle.sr_dial_laws.specs.Served.{HaveInputs, IsServedCall, ServedCallsAreExplained, all_served, goes, unheard, with_another}
+use Rattle.sr_dial_laws.proofs.HonestLemmas.{Fronts, fronts}
 
 -- ---- beginnings
 

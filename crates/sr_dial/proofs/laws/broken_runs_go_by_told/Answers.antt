@@ -1,5 +1,0 @@
-use Rattle.sr_dial.proofs.TrueLemmas.{broken-runs-go-by-told}
-use Rattle.sr_dial.proofs.laws.broken_runs_go_by_told.Goals as goal
-
-pub returns : goal.returns
-returns g c = broken-runs-go-by-told g.C.Peer.is_of g.C.Hearer.has_told

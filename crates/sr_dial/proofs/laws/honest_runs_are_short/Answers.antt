@@ -1,5 +1,0 @@
-use Rattle.sr_dial.proofs.TrueLemmas.{honest-runs-are-short}
-use Rattle.sr_dial.proofs.laws.honest_runs_are_short.Goals as goal
-
-pub returns : goal.returns
-returns g c = honest-runs-are-short g.C.Peer.is_of g.C.Hearer.has_told

@@ -1,0 +1,4 @@
+pub mod HonestLemmas
+pub mod LimitLemmas
+pub mod TrueLemmas
+pub mod ServedLemmas

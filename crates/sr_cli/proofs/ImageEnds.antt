@@ -55,65 +55,65 @@ module _ (H : Type 0) (held : H → List ℕ → Option (List ℕ)) (reading : H
     abbrev Ends : H → H → ℕ → Type 0
     Ends old new status = SavesOver H held reading writing linking complaints IsSteady old new words status
 
-    pub saves-whole : (old new : H) → complaints new ≡ complaints old → Saved (held old) words (linking old) (linking new) (writing old) (writing new) Whole → Ends old new 0
+    pub saves-whole : (old new : H) → complaints new ≡ complaints old → Saved (IsSteady old) (held old) words (linking old) (linking new) (writing old) (writing new) Whole → Ends old new 0
     saves-whole old new silent saved =
-        let comes : SavesBy (held old) words (reading new) (linking old) (linking new) (writing old) (writing new) (complaints old) (complaints new) 0 =
-        comes-whole (held old) words (Saved (held old) words (linking old) (linking new) (writing old) (writing new)) (SavedInPart (held old) words (linking old) (linking new) (writing old) (writing new))
-        (SavedOff (held old) words (linking old) (linking new) (writing old) (writing new)) (SomeTooLong (held old) (reading new).left (files_of words)) (complaints old) (complaints new) saved in
+        let comes : SavesBy (IsSteady old) (held old) words (reading new) (linking old) (linking new) (writing old) (writing new) (complaints old) (complaints new) 0 =
+        comes-whole (held old) words (Saved (IsSteady old) (held old) words (linking old) (linking new) (writing old) (writing new)) (SavedInPart (IsSteady old) (held old) words (linking old) (linking new) (writing old) (writing new))
+        (SavedOff (IsSteady old) (held old) words (linking old) (linking new) (writing old) (writing new)) (SomeTooLong (held old) (reading new).left (files_of words)) (complaints old) (complaints new) saved in
         record {
           only = inl refl;
           comes = comes;
-          steady = λ steady. fits-saved (held old) words plain (reading new) (linking old) (linking new) (writing old) (writing new) (complaints old) (complaints new) 0 comes (inl refl) (λ is. omega (arith, is));
+          steady = λ steady. fits-saved (held old) words plain (IsSteady old) (reading new) (linking old) (linking new) (writing old) (writing new) (complaints old) (complaints new) 0 comes (inl refl) (λ is. omega (arith, is));
           steady_writes = λ steady is. omega (arith, is);
         }
 
     module _ (old mid new : H) (silent : complaints mid ≡ complaints old) (stays : OnlyComplains H reading writing linking held IsSteady mid new) where
-      ends : (status : ℕ) → IsEnd status → (IsSteady old → (schema script : List ℕ) → AreHeld (held old) words schema script → ¬ (status ≡ 3)) → (IsSteady old → ¬ (status ≡ 4)) → SavesBy (held old) words (reading mid) (linking old) (linking mid) (writing old) (writing mid) (complaints old) (complaints new) status → Ends old new status
+      ends : (status : ℕ) → IsEnd status → (IsSteady old → (schema script : List ℕ) → AreHeld (held old) words schema script → ¬ (status ≡ 3)) → (IsSteady old → ¬ (status ≡ 4)) → SavesBy (IsSteady old) (held old) words (reading mid) (linking old) (linking mid) (writing old) (writing mid) (complaints old) (complaints new) status → Ends old new status
       ends status only reads writes comes = record {
         only = only;
-        comes = moved mid new stays (λ r l w. SavesBy (held old) words r (linking old) l (writing old) w (complaints old) (complaints new) status) comes;
+        comes = moved mid new stays (λ r l w. SavesBy (IsSteady old) (held old) words r (linking old) l (writing old) w (complaints old) (complaints new) status) comes;
         steady = λ steady schema script are.
-            fits-saved (held old) words plain (reading mid) (linking old) (linking mid) (writing old) (writing mid) (complaints old) (complaints new) status comes only (reads steady schema script are) schema script are;
+            fits-saved (held old) words plain (IsSteady old) (reading mid) (linking old) (linking mid) (writing old) (writing mid) (complaints old) (complaints new) status comes only (reads steady schema script are) schema script are;
         steady_writes = writes;
       }
 
-      pub saves-spoiled : (status : ℕ) (fault : WireFault) → Names 8 (spoiled_text fault) status (complaints mid) (complaints new) → Saved (held old) words (linking old) (linking mid) (writing old) (writing mid) (Spoiled fault) → Ends old new status
+      pub saves-spoiled : (status : ℕ) (fault : WireFault) → Names 8 (spoiled_text fault) status (complaints mid) (complaints new) → Saved (IsSteady old) (held old) words (linking old) (linking mid) (writing old) (writing mid) (Spoiled fault) → Ends old new status
       saves-spoiled status fault named saved =
           let which = named-status (spoiled_text fault) status (complaints mid) (complaints new) named in
           ends status (frames-end status which) (λ steady schema script are is. omega (arith, which, is)) (λ steady is. omega (arith, which, is))
-          (comes-spoiled (held old) words (Saved (held old) words (linking old) (linking mid) (writing old) (writing mid)) (SavedInPart (held old) words (linking old) (linking mid) (writing old) (writing mid))
-          (SavedOff (held old) words (linking old) (linking mid) (writing old) (writing mid)) (SomeTooLong (held old) (reading mid).left (files_of words)) (complaints old) (complaints mid) (complaints new) silent status fault named saved
-          (saved-off (held old) words (linking old) (linking mid) (writing old) (writing mid) (Spoiled fault) refl refl saved))
+          (comes-spoiled (held old) words (Saved (IsSteady old) (held old) words (linking old) (linking mid) (writing old) (writing mid)) (SavedInPart (IsSteady old) (held old) words (linking old) (linking mid) (writing old) (writing mid))
+          (SavedOff (IsSteady old) (held old) words (linking old) (linking mid) (writing old) (writing mid)) (SomeTooLong (held old) (reading mid).left (files_of words)) (complaints old) (complaints mid) (complaints new) silent status fault named saved
+          (saved-off (held old) words (IsSteady old) (linking old) (linking mid) (writing old) (writing mid) (Spoiled fault) refl refl saved))
 
-      pub saves-bad : (status : ℕ) (why : BadFrame) → status ≡ 8 → complaints new ≡ complained (bad_text why) (complaints mid) → Saved (held old) words (linking old) (linking mid) (writing old) (writing mid) (BadMessage why) → Ends old new status
+      pub saves-bad : (status : ℕ) (why : BadFrame) → status ≡ 8 → complaints new ≡ complained (bad_text why) (complaints mid) → Saved (IsSteady old) (held old) words (linking old) (linking mid) (writing old) (writing mid) (BadMessage why) → Ends old new status
       saves-bad status why is said saved =
-          ends status (frames-end status (inl is)) (λ steady schema script are three. omega (arith, is, three)) (λ steady four. omega (arith, is, four)) (comes-bad (held old) words (Saved (held old) words (linking old) (linking mid) (writing old) (writing mid)) (SavedInPart (held old) words (linking old) (linking mid) (writing old) (writing mid))
-          (SavedOff (held old) words (linking old) (linking mid) (writing old) (writing mid)) (SomeTooLong (held old) (reading mid).left (files_of words)) (complaints old) (complaints mid) (complaints new) silent status why is said saved)
+          ends status (frames-end status (inl is)) (λ steady schema script are three. omega (arith, is, three)) (λ steady four. omega (arith, is, four)) (comes-bad (held old) words (Saved (IsSteady old) (held old) words (linking old) (linking mid) (writing old) (writing mid)) (SavedInPart (IsSteady old) (held old) words (linking old) (linking mid) (writing old) (writing mid))
+          (SavedOff (IsSteady old) (held old) words (linking old) (linking mid) (writing old) (writing mid)) (SomeTooLong (held old) (reading mid).left (files_of words)) (complaints old) (complaints mid) (complaints new) silent status why is said saved)
 
-      pub saves-limit : (status : ℕ) → status ≡ 11 → Saved (held old) words (linking old) (linking mid) (writing old) (writing mid) TooMany → Ends old new status
+      pub saves-limit : (status : ℕ) → status ≡ 11 → Saved (IsSteady old) (held old) words (linking old) (linking mid) (writing old) (writing mid) TooMany → Ends old new status
       saves-limit status is saved =
-          ends status (inr (inr (inr (inr (inr (inr (inr (inr (inr is))))))))) (λ steady schema script are three. omega (arith, is, three)) (λ steady four. omega (arith, is, four)) (comes-limit (held old) words (Saved (held old) words (linking old) (linking mid) (writing old) (writing mid)) (SavedInPart (held old) words (linking old) (linking mid) (writing old) (writing mid))
-          (SavedOff (held old) words (linking old) (linking mid) (writing old) (writing mid)) (SomeTooLong (held old) (reading mid).left (files_of words)) (complaints old) (complaints mid) (complaints new) silent status is saved)
+          ends status (inr (inr (inr (inr (inr (inr (inr (inr (inr is))))))))) (λ steady schema script are three. omega (arith, is, three)) (λ steady four. omega (arith, is, four)) (comes-limit (held old) words (Saved (IsSteady old) (held old) words (linking old) (linking mid) (writing old) (writing mid)) (SavedInPart (IsSteady old) (held old) words (linking old) (linking mid) (writing old) (writing mid))
+          (SavedOff (IsSteady old) (held old) words (linking old) (linking mid) (writing old) (writing mid)) (SomeTooLong (held old) (reading mid).left (files_of words)) (complaints old) (complaints mid) (complaints new) silent status is saved)
 
       -- what has a name did nothing
       nothing : (refusal : Refusal) (status : ℕ) → Reported refusal status (complaints mid) (complaints new) → Counts H reading writing linking old mid (Err refusal) → HasName refusal
-          → SavedOff (held old) words (linking old) (linking mid) (writing old) (writing mid)
+          → SavedOff (IsSteady old) (held old) words (linking old) (linking mid) (writing old) (writing mid)
       nothing refusal status reported counts named =
           let none = named-nothing H held reading writing linking complaints IsSteady old mid new refusal status reported counts named in
           inl (record { linking = none.linking_stays; writing = none.writing_stays })
 
       pub saves-refused : (refusal : Refusal) (status : ℕ) → Reported refusal status (complaints mid) (complaints new) → Counts H reading writing linking old mid (Err refusal)
-          → SaveStopsOver (held old) words (reading mid).left (linking old) (linking mid) (writing old) (writing mid) (Refused refusal)
+          → SaveStopsOver (IsSteady old) (held old) words (reading mid).left (linking old) (linking mid) (writing old) (writing mid) (Refused refusal)
           → (IsSteady old → refusal ≡ Read → (schema script : List ℕ) → ¬ AreHeld (held old) words schema script) → (IsSteady old → refusal ≢ Write) → Ends old new status
       saves-refused refusal status reported counts why reads writes =
           ends status
-          (refused-end (held old) words (Saved (held old) words (linking old) (linking mid) (writing old) (writing mid)) (SavedInPart (held old) words (linking old) (linking mid) (writing old) (writing mid))
-          (SavedOff (held old) words (linking old) (linking mid) (writing old) (writing mid)) (SomeTooLong (held old) (reading mid).left (files_of words))
+          (refused-end (held old) words (Saved (IsSteady old) (held old) words (linking old) (linking mid) (writing old) (writing mid)) (SavedInPart (IsSteady old) (held old) words (linking old) (linking mid) (writing old) (writing mid))
+          (SavedOff (IsSteady old) (held old) words (linking old) (linking mid) (writing old) (writing mid)) (SomeTooLong (held old) (reading mid).left (files_of words))
           (complaints old) (complaints mid) (complaints new) silent refusal status reported why (nothing refusal status reported counts))
           (λ steady schema script are is. reads steady ((reported-is refusal status (complaints mid) (complaints new) reported).read is) schema script are)
           (λ steady is. writes steady ((reported-is refusal status (complaints mid) (complaints new) reported).write is))
-          (comes-refused (held old) words (Saved (held old) words (linking old) (linking mid) (writing old) (writing mid)) (SavedInPart (held old) words (linking old) (linking mid) (writing old) (writing mid))
-          (SavedOff (held old) words (linking old) (linking mid) (writing old) (writing mid)) (SomeTooLong (held old) (reading mid).left (files_of words))
+          (comes-refused (held old) words (Saved (IsSteady old) (held old) words (linking old) (linking mid) (writing old) (writing mid)) (SavedInPart (IsSteady old) (held old) words (linking old) (linking mid) (writing old) (writing mid))
+          (SavedOff (IsSteady old) (held old) words (linking old) (linking mid) (writing old) (writing mid)) (SomeTooLong (held old) (reading mid).left (files_of words))
           (complaints old) (complaints mid) (complaints new) silent refusal status reported why (nothing refusal status reported counts))
 
   -- ---- `warm`
@@ -122,48 +122,48 @@ module _ (H : Type 0) (held : H → List ℕ → Option (List ℕ)) (reading : H
     abbrev WarmEnds : H → H → ℕ → Type 0
     WarmEnds old new status = WarmsOver H held reading writing linking complaints IsSteady old new words status
 
-    pub warms-whole : (old new : H) → complaints new ≡ complaints old → Warmed (held old) words (linking old) (linking new) (writing old) (writing new) Whole → WarmEnds old new 0
+    pub warms-whole : (old new : H) → complaints new ≡ complaints old → Warmed (IsSteady old) (held old) words (linking old) (linking new) (writing old) (writing new) Whole → WarmEnds old new 0
     warms-whole old new silent warmed =
-        let comes : WarmsBy (held old) words (reading new) (linking old) (linking new) (writing old) (writing new) (complaints old) (complaints new) 0 =
-        comes-whole (held old) words.client (Warmed (held old) words (linking old) (linking new) (writing old) (writing new)) (WarmedInPart (held old) words (linking old) (linking new) (writing old) (writing new))
+        let comes : WarmsBy (IsSteady old) (held old) words (reading new) (linking old) (linking new) (writing old) (writing new) (complaints old) (complaints new) 0 =
+        comes-whole (held old) words.client (Warmed (IsSteady old) (held old) words (linking old) (linking new) (writing old) (writing new)) (WarmedInPart (IsSteady old) (held old) words (linking old) (linking new) (writing old) (writing new))
         (WarmedOff (held old) words (linking old) (linking new) (writing old) (writing new)) (SomeTooLong (held old) (reading new).left (names_of words)) (complaints old) (complaints new) warmed in
         record {
           only = inl (inl refl);
           comes = comes;
           steady = λ steady schema script bytes are.
-              fits-warmed (held old) words schema script bytes are (reading new) (linking old) (linking new) (writing old) (writing new) (complaints old) (complaints new) 0 comes (λ is. omega (arith, is)) (λ is. absurd (omega (arith, is)));
+              fits-warmed (held old) words schema script bytes are (IsSteady old) (reading new) (linking old) (linking new) (writing old) (writing new) (complaints old) (complaints new) 0 comes (λ is. omega (arith, is)) (λ is. absurd (omega (arith, is)));
           steady_writes = λ steady is. omega (arith, is);
           no_image = λ is. absurd (omega (arith, is));
         }
 
     module _ (old mid new : H) (silent : complaints mid ≡ complaints old) (stays : OnlyComplains H reading writing linking held IsSteady mid new) where
-      warm-ends : (status : ℕ) → IsEnd status → (IsSteady old → (schema script bytes : List ℕ) → AreWarmHeld (held old) words schema script bytes → ¬ (status ≡ 3)) → (IsSteady old → ¬ (status ≡ 4)) → WarmsBy (held old) words (reading mid) (linking old) (linking mid) (writing old) (writing mid) (complaints old) (complaints new) status → WarmEnds old new status
+      warm-ends : (status : ℕ) → IsEnd status → (IsSteady old → (schema script bytes : List ℕ) → AreWarmHeld (held old) words schema script bytes → ¬ (status ≡ 3)) → (IsSteady old → ¬ (status ≡ 4)) → WarmsBy (IsSteady old) (held old) words (reading mid) (linking old) (linking mid) (writing old) (writing mid) (complaints old) (complaints new) status → WarmEnds old new status
       warm-ends status only reads writes comes = record {
         only = inl only;
         no_image = λ is. absurd (never-13 status only is);
-        comes = moved mid new stays (λ r l w. WarmsBy (held old) words r (linking old) l (writing old) w (complaints old) (complaints new) status) comes;
+        comes = moved mid new stays (λ r l w. WarmsBy (IsSteady old) (held old) words r (linking old) l (writing old) w (complaints old) (complaints new) status) comes;
         steady = λ steady schema script bytes are.
-            fits-warmed (held old) words schema script bytes are (reading mid) (linking old) (linking mid) (writing old) (writing mid) (complaints old) (complaints new) status comes (reads steady schema script bytes are)
+            fits-warmed (held old) words schema script bytes are (IsSteady old) (reading mid) (linking old) (linking mid) (writing old) (writing mid) (complaints old) (complaints new) status comes (reads steady schema script bytes are)
             (λ is. absurd (never-13 status only is));
         steady_writes = writes;
       }
 
-      pub warms-spoiled : (status : ℕ) (fault : WireFault) → Names 8 (spoiled_text fault) status (complaints mid) (complaints new) → Warmed (held old) words (linking old) (linking mid) (writing old) (writing mid) (Spoiled fault) → WarmEnds old new status
+      pub warms-spoiled : (status : ℕ) (fault : WireFault) → Names 8 (spoiled_text fault) status (complaints mid) (complaints new) → Warmed (IsSteady old) (held old) words (linking old) (linking mid) (writing old) (writing mid) (Spoiled fault) → WarmEnds old new status
       warms-spoiled status fault named warmed =
           let which = named-status (spoiled_text fault) status (complaints mid) (complaints new) named in
           warm-ends status (frames-end status which) (λ steady schema script bytes are is. omega (arith, which, is)) (λ steady is. omega (arith, which, is))
-          (comes-spoiled (held old) words.client (Warmed (held old) words (linking old) (linking mid) (writing old) (writing mid)) (WarmedInPart (held old) words (linking old) (linking mid) (writing old) (writing mid))
+          (comes-spoiled (held old) words.client (Warmed (IsSteady old) (held old) words (linking old) (linking mid) (writing old) (writing mid)) (WarmedInPart (IsSteady old) (held old) words (linking old) (linking mid) (writing old) (writing mid))
           (WarmedOff (held old) words (linking old) (linking mid) (writing old) (writing mid)) (SomeTooLong (held old) (reading mid).left (names_of words)) (complaints old) (complaints mid) (complaints new) silent status fault named warmed
-          (warmed-off (held old) words (linking old) (linking mid) (writing old) (writing mid) (Spoiled fault) refl warmed))
+          (warmed-off (held old) words (IsSteady old) (linking old) (linking mid) (writing old) (writing mid) (Spoiled fault) refl warmed))
 
-      pub warms-bad : (status : ℕ) (why : BadFrame) → status ≡ 8 → complaints new ≡ complained (bad_text why) (complaints mid) → Warmed (held old) words (linking old) (linking mid) (writing old) (writing mid) (BadMessage why) → WarmEnds old new status
+      pub warms-bad : (status : ℕ) (why : BadFrame) → status ≡ 8 → complaints new ≡ complained (bad_text why) (complaints mid) → Warmed (IsSteady old) (held old) words (linking old) (linking mid) (writing old) (writing mid) (BadMessage why) → WarmEnds old new status
       warms-bad status why is said warmed =
-          warm-ends status (frames-end status (inl is)) (λ steady schema script bytes are three. omega (arith, is, three)) (λ steady four. omega (arith, is, four)) (comes-bad (held old) words.client (Warmed (held old) words (linking old) (linking mid) (writing old) (writing mid)) (WarmedInPart (held old) words (linking old) (linking mid) (writing old) (writing mid))
+          warm-ends status (frames-end status (inl is)) (λ steady schema script bytes are three. omega (arith, is, three)) (λ steady four. omega (arith, is, four)) (comes-bad (held old) words.client (Warmed (IsSteady old) (held old) words (linking old) (linking mid) (writing old) (writing mid)) (WarmedInPart (IsSteady old) (held old) words (linking old) (linking mid) (writing old) (writing mid))
           (WarmedOff (held old) words (linking old) (linking mid) (writing old) (writing mid)) (SomeTooLong (held old) (reading mid).left (names_of words)) (complaints old) (complaints mid) (complaints new) silent status why is said warmed)
 
-      pub warms-limit : (status : ℕ) → status ≡ 11 → Warmed (held old) words (linking old) (linking mid) (writing old) (writing mid) TooMany → WarmEnds old new status
+      pub warms-limit : (status : ℕ) → status ≡ 11 → Warmed (IsSteady old) (held old) words (linking old) (linking mid) (writing old) (writing mid) TooMany → WarmEnds old new status
       warms-limit status is warmed =
-          warm-ends status (inr (inr (inr (inr (inr (inr (inr (inr (inr is))))))))) (λ steady schema script bytes are three. omega (arith, is, three)) (λ steady four. omega (arith, is, four)) (comes-limit (held old) words.client (Warmed (held old) words (linking old) (linking mid) (writing old) (writing mid)) (WarmedInPart (held old) words (linking old) (linking mid) (writing old) (writing mid))
+          warm-ends status (inr (inr (inr (inr (inr (inr (inr (inr (inr is))))))))) (λ steady schema script bytes are three. omega (arith, is, three)) (λ steady four. omega (arith, is, four)) (comes-limit (held old) words.client (Warmed (IsSteady old) (held old) words (linking old) (linking mid) (writing old) (writing mid)) (WarmedInPart (IsSteady old) (held old) words (linking old) (linking mid) (writing old) (writing mid))
           (WarmedOff (held old) words (linking old) (linking mid) (writing old) (writing mid)) (SomeTooLong (held old) (reading mid).left (names_of words)) (complaints old) (complaints mid) (complaints new) silent status is warmed)
 
       -- what has a name did nothing
@@ -174,30 +174,30 @@ module _ (H : Type 0) (held : H → List ℕ → Option (List ℕ)) (reading : H
           inl (record { linking = none.linking_stays; writing = none.writing_stays })
 
       pub warms-refused : (refusal : Refusal) (status : ℕ) → Reported refusal status (complaints mid) (complaints new) → Counts H reading writing linking old mid (Err refusal)
-          → WarmStopsOver (held old) words (reading mid).left (linking old) (linking mid) (writing old) (writing mid) (Stopped (Refused refusal))
+          → WarmStopsOver (IsSteady old) (held old) words (reading mid).left (linking old) (linking mid) (writing old) (writing mid) (Stopped (Refused refusal))
           → (IsSteady old → refusal ≡ Read → (schema script bytes : List ℕ) → ¬ AreWarmHeld (held old) words schema script bytes) → (IsSteady old → refusal ≢ Write) → WarmEnds old new status
       warms-refused refusal status reported counts why reads writes =
           warm-ends status
-          (refused-end (held old) words.client (Warmed (held old) words (linking old) (linking mid) (writing old) (writing mid)) (WarmedInPart (held old) words (linking old) (linking mid) (writing old) (writing mid))
+          (refused-end (held old) words.client (Warmed (IsSteady old) (held old) words (linking old) (linking mid) (writing old) (writing mid)) (WarmedInPart (IsSteady old) (held old) words (linking old) (linking mid) (writing old) (writing mid))
           (WarmedOff (held old) words (linking old) (linking mid) (writing old) (writing mid)) (SomeTooLong (held old) (reading mid).left (names_of words))
           (complaints old) (complaints mid) (complaints new) silent refusal status reported why (warm-nothing refusal status reported counts))
           (λ steady schema script bytes are is. reads steady ((reported-is refusal status (complaints mid) (complaints new) reported).read is) schema script bytes are)
           (λ steady is. writes steady ((reported-is refusal status (complaints mid) (complaints new) reported).write is))
-          (comes-refused (held old) words.client (Warmed (held old) words (linking old) (linking mid) (writing old) (writing mid)) (WarmedInPart (held old) words (linking old) (linking mid) (writing old) (writing mid))
+          (comes-refused (held old) words.client (Warmed (IsSteady old) (held old) words (linking old) (linking mid) (writing old) (writing mid)) (WarmedInPart (IsSteady old) (held old) words (linking old) (linking mid) (writing old) (writing mid))
           (WarmedOff (held old) words (linking old) (linking mid) (writing old) (writing mid)) (SomeTooLong (held old) (reading mid).left (names_of words))
           (complaints old) (complaints mid) (complaints new) silent refusal status reported why (warm-nothing refusal status reported counts))
 
       pub warms-no-image : (status : ℕ) (fault : ImageFault) → Names 13 (image_text fault) status (complaints mid) (complaints new)
           → IsNoImage (held old) words fault × Untouched (linking old) (linking mid) (writing old) (writing mid) → WarmEnds old new status
       warms-no-image status fault (inl (is, said)) (none, untouched) =
-          let comes : WarmsBy (held old) words (reading new) (linking old) (linking new) (writing old) (writing new) (complaints old) (complaints new) status =
-          comes-other (held old) words.client (Warmed (held old) words (linking old) (linking new) (writing old) (writing new)) (WarmedInPart (held old) words (linking old) (linking new) (writing old) (writing new))
+          let comes : WarmsBy (IsSteady old) (held old) words (reading new) (linking old) (linking new) (writing old) (writing new) (complaints old) (complaints new) status =
+          comes-other (held old) words.client (Warmed (IsSteady old) (held old) words (linking old) (linking new) (writing old) (writing new)) (WarmedInPart (IsSteady old) (held old) words (linking old) (linking new) (writing old) (writing new))
           (WarmedOff (held old) words (linking old) (linking new) (writing old) (writing new)) (SomeTooLong (held old) (reading new).left (names_of words)) (complaints old) (complaints new) status is in
           record {
             only = inr is;
             comes = comes;
             steady = λ steady schema script bytes are.
-                fits-warmed (held old) words schema script bytes are (reading new) (linking old) (linking new) (writing old) (writing new) (complaints old) (complaints new) status comes (λ three. omega (arith, is, three)) (λ thirteen. (fault, none));
+                fits-warmed (held old) words schema script bytes are (IsSteady old) (reading new) (linking old) (linking new) (writing old) (writing new) (complaints old) (complaints new) status comes (λ three. omega (arith, is, three)) (λ thirteen. (fault, none));
             steady_writes = λ steady four. omega (arith, is, four);
             no_image = λ thirteen. record {
               fault = fault;
@@ -207,7 +207,7 @@ module _ (H : Type 0) (held : H → List ℕ → Option (List ℕ)) (reading : H
             };
           }
       warms-no-image status fault (inr (is, said)) (none, untouched) =
-          warm-ends status (inr (inr (inr (inr (inr (inr (inr (inl is)))))))) (λ steady schema script bytes are three. omega (arith, is, three)) (λ steady four. omega (arith, is, four)) (comes-wanting (held old) words.client (Warmed (held old) words (linking old) (linking mid) (writing old) (writing mid)) (WarmedInPart (held old) words (linking old) (linking mid) (writing old) (writing mid))
+          warm-ends status (inr (inr (inr (inr (inr (inr (inr (inl is)))))))) (λ steady schema script bytes are three. omega (arith, is, three)) (λ steady four. omega (arith, is, four)) (comes-wanting (held old) words.client (Warmed (IsSteady old) (held old) words (linking old) (linking mid) (writing old) (writing mid)) (WarmedInPart (IsSteady old) (held old) words (linking old) (linking mid) (writing old) (writing mid))
           (WarmedOff (held old) words (linking old) (linking mid) (writing old) (writing mid)) (SomeTooLong (held old) (reading mid).left (names_of words)) (complaints old) (complaints mid) (complaints new) silent status is (inl untouched))
 
   -- the image was refused, or there was no memory to say so

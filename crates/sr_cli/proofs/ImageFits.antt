@@ -42,7 +42,7 @@ module _ (held : List ℕ → Option (List ℕ)) (words : ClientWords) (plain : 
   refuses-of : {old new : Option (List ℕ)} → NamedCreate held words old new → Named held words (RefusesSome (fault_by words))
   refuses-of {old} {new} n = record { schema = n.refused.schema; script = n.refused.script; files = n.refused.files; holds = (n.line, n.fault, n.refused.refuses) }
 
-  module _ (to : Reading) (old new : Linking) (before after : Writing) (first last : Option (List ℕ)) (status : ℕ) (by : SavesBy held words to old new before after first last status) where
+  module _ (Steady : Type 0) (to : Reading) (old new : Linking) (before after : Writing) (first last : Option (List ℕ)) (status : ℕ) (by : SavesBy Steady held words to old new before after first last status) where
     ran-of : DidRun status → Named held words (Accepted (fault_by words))
     ran-of (inl is) = accepted-of (by.whole is)
     ran-of (inr (inl is)) = accepted-of (by.unwritten is)
@@ -89,20 +89,20 @@ module _ (held : List ℕ → Option (List ℕ)) (words : WarmWords) (schema scr
   abbrev IsNone : List Table → List ℕ → Type 0
   IsNone tables image = (fault : ImageFault) × (image_in tables image ≡ Err fault)
 
-  module _ (to : Reading) (old new : Linking) (before after : Writing) (first last : Option (List ℕ)) (status : ℕ) (by : WarmsBy held words to old new before after first last status) where
+  module _ (Steady : Type 0) (to : Reading) (old new : Linking) (before after : Writing) (first last : Option (List ℕ)) (status : ℕ) (by : WarmsBy Steady held words to old new before after first last status) where
     abbrev Did : Ending → List Table → Ahead → List ℕ → Type 0
-    Did e tables ahead image = Warms words.client tables ahead image e old new before after
+    Did e tables ahead image = Warms Steady words.client tables ahead image e old new before after
 
     from-warms : (e : Ending) (tables : List Table) (ahead : Ahead) (image : List ℕ) → Did e tables ahead image → IsImage tables image
     from-warms e tables ahead image w = (w.starts.image, w.starts.read)
 
-    from-unwritten : (tables : List Table) (ahead : Ahead) (image : List ℕ) → WarmsUnwritten words.client tables ahead image old new before after → IsImage tables image
+    from-unwritten : (tables : List Table) (ahead : Ahead) (image : List ℕ) → WarmsUnwritten Steady words.client tables ahead image old new before after → IsImage tables image
     from-unwritten tables ahead image (inl w) = (w.starts.image, w.starts.read)
     from-unwritten tables ahead image (inr w) = (w.starts.image, w.starts.read)
 
     started : DidRun status → AskedOf words.client.id schema script (λ tables. IsImage tables bytes)
     started (inl is) = of-held IsImage (Did Whole) (from-warms Whole) (by.whole is)
-    started (inr (inl is)) = of-held IsImage (λ t a b. WarmsUnwritten words.client t a b old new before after) from-unwritten (by.unwritten is)
+    started (inr (inl is)) = of-held IsImage (λ t a b. WarmsUnwritten Steady words.client t a b old new before after) from-unwritten (by.unwritten is)
     started (inr (inr (inl is))) = of-held IsImage (Did Faulty) (from-warms Faulty) (by.faulty is)
     started (inr (inr (inr (inl is)))) = (let f = by.frame is in of-held IsImage (Did f.ending) (from-warms f.ending) f.ended)
     started (inr (inr (inr (inr is)))) = of-held IsImage (Did TooMany) (from-warms TooMany) (by.limit is)

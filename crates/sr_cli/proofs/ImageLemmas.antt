@@ -4,14 +4,13 @@ use Rattle.std.specs.Prelude.{◌*◌, ◌^◌, Result, IfErr, IfOk, IsErrOf, Is
 use Rattle.std.specs.Io.KnownBytes.{Appends}
 use Rattle.std.proofs.lemmas.List.Concat.{flat_map-cons}
 use Rattle.sr_calls.specs.ClientEnds.{End, room_of, setting_of}
-use Rattle.sr_calls.specs.Runs.{RanFrom, RanNewInPart, RanOff, new_end}
+use Rattle.sr_calls.specs.Runs.{RanNewInPart, RanOff, RanSteadilyFrom, new_end}
 use Rattle.sr_calls.proofs.RunLemmas.{ended_in_part, run_in_part}
 use Rattle.sr_cell.specs.declared.fault.Fault.{Fault}
 use Rattle.sr_cell.specs.declared.list.No.{No}
 use Rattle.sr_cell.specs.declared.list.No.TheVariants.{Refused as NoBut, NoMemory as Wanting}
 use Rattle.sr_cell.specs.declared.table.Table.{Table}
 use Rattle.sr_client.specs.Stands.{StandsFor}
-use Rattle.sr_client.specs.Starting.{start_past}
 use Rattle.sr_client.specs.declared.client.Client.{Client}
 use Rattle.sr_dial.specs.Calls.{Do, Done, all_done, text_of}
 use Rattle.sr_dial.specs.Carrying.{spoken}
@@ -44,7 +43,7 @@ use Rattle.sr_setup.specs.declared.client_setup.ClientFault.{ClientFault}
 use Rattle.sr_setup.specs.declared.client_setup.ClientFault.TheVariants as setup
 use Rattle.sr_cli.specs.Client.{AreFiles, CountsStop, IsEnd, IsOutside, IsRefusedCreate, NamedCreate, NamedLine, Untouched, ending_of, files_of, stop_of}
 use Rattle.sr_cli.specs.Errors.{bad_text, line_text, setup_text, spoiled_text}
-use Rattle.sr_cli.specs.Image.{Asked, AskedOver, BeginsAs, ComesTo, CountsWarm, CreateDid, EndsQuietly, LeftBy, NamedEnd, OutsideDid, SaveStops, SaveStopsFiles, SaveStopsOver, SavedInPart, SavedOff, Saved, Saves, SavesNothing, SavesOff, SavesOnly, StopsAs, StopsQuietly, WarmStops, WarmStopsFiles, WarmStopsOver, WarmedInPart, WarmedOff, Warmed, Warms, WarmsInPart, WarmsOff, WarmsOnly, WarmsUnwritten, WritesAll, WritesOff, WritesPart, Wrote, WroteLeft, bytes_left, end_of_start, has_image, held_image, names_of, text_of_start}
+use Rattle.sr_cli.specs.Image.{Asked, AskedOver, BeginsAs, ComesTo, CountsWarm, CreateDid, EndsQuietly, LeftBy, NamedEnd, OutsideDid, SaveStops, SaveStopsFiles, SaveStopsOver, SavedInPart, SavedOff, Saved, Saves, SavesNothing, SavesOff, SavesOnly, StopsAs, StopsQuietly, WarmStops, WarmStopsFiles, WarmStopsOver, WarmedInPart, WarmedOff, Warmed, Warms, WarmsInPart, WarmsOff, WarmsOnly, WarmsUnwritten, WritesAll, WritesOff, WritesPart, Wrote, WroteLeft, bytes_left, end_of_start, has_image, held_image, names_of, past_of_start, text_of_start}
 use Rattle.sr_cli.specs.Files.{IsWhatIsHeld, SomeTooLong}
 use Rattle.sr_cli.specs.Kinds.{AsksLines, fault_by}
 use Rattle.sr_cli.specs.Leaves.{DidNothing, Names, Reported}
@@ -275,45 +274,67 @@ saves-nothing words tables ahead old new before after part = record {
 }
 
 -- a run that ended so did no more than one that was broken off
-pub saves-in-part : (words : ClientWords) (tables : List Table) (ahead : Ahead) (ending : Ending) (old new : Linking) (before after : Writing) → is_unwritten ending ≡ false → has_image ending ≡ false
-    → Saves words tables ahead ending old new before after → SavesNothing words tables ahead old new before after
-saves-in-part words tables ahead ending old new before after each none saves = record {
+pub saves-in-part : (Steady : Type 0) (words : ClientWords) (tables : List Table) (ahead : Ahead) (ending : Ending) (old new : Linking) (before after : Writing) → is_unwritten ending ≡ false → has_image ending ≡ false
+    → Saves Steady words tables ahead ending old new before after → SavesNothing words tables ahead old new before after
+saves-in-part Steady words tables ahead ending old new before after each none saves = record {
   middle = saves.middle;
-  ran = ended_in_part words.id words.address tables words.limits false false (Next 0 (Do Resumed) ahead) ending old new before saves.middle each saves.ran;
-  none = subst (λ b. WritesAll (if b then image_bytes tables (held_image saves.ran.left.client) else []) before after) none saves.image;
+  ran = ended_in_part words.id words.address tables words.limits false false (Next 0 (Do Resumed) ahead) ending old new before saves.middle each saves.ran.run;
+  none = subst (λ b. WritesAll (if b then image_bytes tables (held_image saves.ran.run.left.client) else []) before after) none saves.image;
 }
 
-module _ (words : ClientWords) (tables : List Table) (ahead : Ahead) (ending : Ending) (left : End) (old new : Linking) (before mid after : Writing) (by : LeftBy words tables ahead ending left old new before mid) where
+module _ (Steady : Type 0) (words : ClientWords) (tables : List Table) (ahead : Ahead) (ending : Ending) (left : End) (old new : Linking) (before mid after : Writing) (by : LeftBy Steady words tables ahead ending left old new before mid) where
   still : WritesAll [] before mid
   still =
-      let run = by.ran.ran.run.ran in
+      let run = by.ran.run.ran.run.ran in
       quiet-writes {C = End} (setting_of (new_end words.id tables words.limits false false)) (all_done (run.earlier ++ run.last ∷ [])) ending before mid refl run.writes
 
   pub never-unwritten : ending ≢ Unwritten
   never-unwritten is =
-      let run = by.ran.ran.run.ran in
+      let run = by.ran.run.ran.run.ran in
       let texts = flat_map (said_by {C = End} (setting_of (new_end words.id tables words.limits false false))) (all_done (run.earlier ++ run.last ∷ [])) in
       let wrote : WritesAs false Unwritten texts before mid = subst (λ e. WritesAs false e texts before mid) is run.writes in
       let wrong : false ≡ true = wrote.0 in cc
 
   module _ (Writes : List ℕ → Writing → Writing → Type 0) (behind : (bytes : List ℕ) → Writes bytes mid after → Writes bytes before after) where
-    of-left : (f : List ℕ → List ℕ) → Writes (f (image_bytes tables (held_image left.client))) mid after → Writes (f (image_bytes tables (held_image by.ran.left.client))) before after
+    of-left : (f : List ℕ → List ℕ) → Writes (f (image_bytes tables (held_image left.client))) mid after → Writes (f (image_bytes tables (held_image by.ran.run.left.client))) before after
     of-left f wrote = behind _ (subst (λ (e : End). Writes (f (image_bytes tables (held_image e.client))) mid after) (sym by.is) wrote)
 
-    pub saves-only : (has_image ending ≡ true) × Writes (image_bytes tables (held_image left.client)) mid after → SavesOnly Writes words tables ahead old new before after
+    pub saves-only : (has_image ending ≡ true) × Writes (image_bytes tables (held_image left.client)) mid after → SavesOnly Writes Steady words tables ahead old new before after
     saves-only (done, wrote) = record { ending = ending; done = done; middle = mid; ran = by.ran; image = of-left (λ bytes. bytes) wrote }
 
-  pub saves-of : (e : Ending) → EndsQuietly tables left ending mid after e → Saves words tables ahead e old new before after
+  pub saves-of : (e : Ending) → EndsQuietly tables left ending mid after e → Saves Steady words tables ahead e old new before after
   saves-of e (is, wrote) =
-      subst (λ e. Saves words tables ahead e old new before after) is
+      subst (λ e. Saves Steady words tables ahead e old new before after) is
       (record { middle = mid; ran = by.ran; image = of-left WritesAll (λ bytes. writes-all-behind before mid after bytes still) (λ bytes. if has_image ending then bytes else []) wrote })
 
-  pub stops-of : (why : Stop) → StopsQuietly tables left ending mid after why → SaveStops words tables ahead old new before after why
-  stops-of = stops-map (EndsQuietly tables left ending mid after) (λ e. Saves words tables ahead e old new before after)
-      ((has_image ending ≡ true) × WritesPart (image_bytes tables (held_image left.client)) mid after) (SavesOnly WritesPart words tables ahead old new before after)
-      ((has_image ending ≡ true) × WritesOff (image_bytes tables (held_image left.client)) mid after) (Untouched old new before after ⊎ SavesOff words tables ahead old new before after)
+  pub stops-of : (why : Stop) → StopsQuietly tables left ending mid after why → SaveStops Steady words tables ahead old new before after why
+  stops-of = stops-map (EndsQuietly tables left ending mid after) (λ e. Saves Steady words tables ahead e old new before after)
+      ((has_image ending ≡ true) × WritesPart (image_bytes tables (held_image left.client)) mid after) (SavesOnly WritesPart Steady words tables ahead old new before after)
+      ((has_image ending ≡ true) × WritesOff (image_bytes tables (held_image left.client)) mid after) (Untouched old new before after ⊎ SavesOff Steady words tables ahead old new before after)
       ⊥ ⊥ ⊥ ⊥ (λ line place. ⊥) (λ line place. ⊥) (λ line fault. ⊥) (λ line fault. ⊥) saves-of (saves-only WritesPart (λ bytes. writes-part-behind before mid after bytes still))
       (λ off. inr (inr (saves-only WritesOff (λ bytes. writes-off-behind before mid after bytes still) off))) (λ none. none) (λ none. none) (λ line place none. none) (λ line fault none. none)
+
+-- what is so over a host that was steady is so over one that was steady before
+module _ (Steady Later : Type 0) (later : Steady → Later) where
+  saves-later : (words : ClientWords) (tables : List Table) (ahead : Ahead) (ending : Ending) (old new : Linking) (before after : Writing) → Saves Later words tables ahead ending old new before after → Saves Steady words tables ahead ending old new before after
+  saves-later words tables ahead ending old new before after s =
+      record { middle = s.middle; ran = record { run = s.ran.run; steady_links = λ z. s.ran.steady_links (later z) }; image = s.image }
+
+  saves-only-later : (Writes : List ℕ → Writing → Writing → Type 0) (words : ClientWords) (tables : List Table) (ahead : Ahead) (old new : Linking) (before after : Writing) → SavesOnly Writes Later words tables ahead old new before after → SavesOnly Writes Steady words tables ahead old new before after
+  saves-only-later Writes words tables ahead old new before after s =
+      record { ending = s.ending; done = s.done; middle = s.middle; ran = record { run = s.ran.run; steady_links = λ z. s.ran.steady_links (later z) }; image = s.image }
+
+  saves-off-later : (words : ClientWords) (tables : List Table) (ahead : Ahead) (old new : Linking) (before after : Writing) → SavesOff Later words tables ahead old new before after → SavesOff Steady words tables ahead old new before after
+  saves-off-later words tables ahead old new before after (inl none) = inl none
+  saves-off-later words tables ahead old new before after (inr only) = inr (saves-only-later WritesOff words tables ahead old new before after only)
+
+  warms-later : (words : ClientWords) (tables : List Table) (ahead : Ahead) (bytes : List ℕ) (ending : Ending) (old new : Linking) (before after : Writing) → Warms Later words tables ahead bytes ending old new before after → Warms Steady words tables ahead bytes ending old new before after
+  warms-later words tables ahead bytes ending old new before after w =
+      record { starts = w.starts; middle = w.middle; said = w.said; left = w.left; ran = record { to = w.ran.to; steady_links = λ z. w.ran.steady_links (later z) } }
+
+  warms-unwritten-later : (words : ClientWords) (tables : List Table) (ahead : Ahead) (bytes : List ℕ) (old new : Linking) (before after : Writing) → WarmsUnwritten Later words tables ahead bytes old new before after → WarmsUnwritten Steady words tables ahead bytes old new before after
+  warms-unwritten-later words tables ahead bytes old new before after (inl w) = inl (warms-later words tables ahead bytes Unwritten old new before after w)
+  warms-unwritten-later words tables ahead bytes old new before after (inr only) = inr only
 
 -- an image is written behind a run that ended so, or none is
 pub wrote-left : (bytes : List ℕ) (ending : Ending) (before after : Writing) (result : Result (Unit {0}) (No Failed)) → has_image ending ≡ true → Wrote bytes before after result → WroteLeft bytes ending before after result
@@ -345,18 +366,18 @@ module _ (held : List ℕ → Option (List ℕ)) (words : ClientWords) where
   asked-map {D} {E} f a = record { schema = a.schema; script = a.script; files = a.files; tables = a.tables; ahead = a.ahead; asks = a.asks; did = f a.tables a.ahead a.did }
 
   -- what came ended the run, and there was no memory to say so
-  pub saved-off : (old new : Linking) (before after : Writing) (ending : Ending) → is_unwritten ending ≡ false → has_image ending ≡ false → Saved held words old new before after ending → SavedOff held words old new before after
-  saved-off old new before after ending each none saved = inr (asked-map (λ tables ahead saves. inl (saves-in-part words tables ahead ending old new before after each none saves)) saved)
+  pub saved-off : (Steady : Type 0) (old new : Linking) (before after : Writing) (ending : Ending) → is_unwritten ending ≡ false → has_image ending ≡ false → Saved Steady held words old new before after ending → SavedOff Steady held words old new before after
+  saved-off Steady old new before after ending each none saved = inr (asked-map (λ tables ahead saves. inl (saves-in-part Steady words tables ahead ending old new before after each none saves)) saved)
 
-  pub asked-stops : (schema script : List ℕ) → AreFiles held words schema script → (tables : List Table) (ahead : Ahead) → AsksLines words.id schema script tables ahead → (old new : Linking) (before after : Writing)
-      → (why : Stop) → SaveStops words tables ahead old new before after why → SaveStopsFiles held words old new before after why
-  asked-stops schema script files tables ahead asks old new before after =
-      stops-map (λ e. Saves words tables ahead e old new before after) (Saved held words old new before after)
-      (SavesOnly WritesPart words tables ahead old new before after) (SavedInPart held words old new before after)
-      (Untouched old new before after ⊎ SavesOff words tables ahead old new before after) (SavedOff held words old new before after)
+  pub asked-stops : (Steady : Type 0) (schema script : List ℕ) → AreFiles held words schema script → (tables : List Table) (ahead : Ahead) → AsksLines words.id schema script tables ahead → (old new : Linking) (before after : Writing)
+      → (why : Stop) → SaveStops Steady words tables ahead old new before after why → SaveStopsFiles Steady held words old new before after why
+  asked-stops Steady schema script files tables ahead asks old new before after =
+      stops-map (λ e. Saves Steady words tables ahead e old new before after) (Saved Steady held words old new before after)
+      (SavesOnly WritesPart Steady words tables ahead old new before after) (SavedInPart Steady held words old new before after)
+      (Untouched old new before after ⊎ SavesOff Steady words tables ahead old new before after) (SavedOff Steady held words old new before after)
       ⊥ ⊥ ⊥ ⊥ (λ line place. ⊥) (OutsideDid held words old new before after) (λ line fault. ⊥) (CreateDid held words old new before after)
-      (λ e. asked (λ t a. Saves words t a e old new before after)) (asked (λ t a. SavesOnly WritesPart words t a old new before after))
-      (or-map (Untouched old new before after) (SavesOff words tables ahead old new before after) (Asked held words (λ t a. SavesOff words t a old new before after)) (asked (λ t a. SavesOff words t a old new before after)))
+      (λ e. asked (λ t a. Saves Steady words t a e old new before after)) (asked (λ t a. SavesOnly WritesPart Steady words t a old new before after))
+      (or-map (Untouched old new before after) (SavesOff Steady words tables ahead old new before after) (Asked held words (λ t a. SavesOff Steady words t a old new before after)) (asked (λ t a. SavesOff Steady words t a old new before after)))
       (λ none. none) (λ none. none) (λ line place none. absurd none) (λ line fault none. absurd none)
     where
       asked : (D : List Table → Ahead → Type 0) → D tables ahead → Asked held words D
@@ -424,21 +445,29 @@ module _ (H : Type 0) (reading : H → Reading) (writing : H → Writing) (linki
   counts-result old mid new rose faults read write link (Ok done) stops = ap (λ (r : Reading). r.faults) read ∙ faults
   counts-result old mid new rose faults read write link (Err why) stops = counts-stop old mid new rose faults read write link why stops
 
-pub counts-saved : (H : Type 0) (reading : H → Reading) (writing : H → Writing) (linking : H → Linking) (held : List ℕ → Option (List ℕ)) (words : ClientWords) (old mid new : H)
+pub counts-saved : (Steady H : Type 0) (reading : H → Reading) (writing : H → Writing) (linking : H → Linking) (held : List ℕ → Option (List ℕ)) (words : ClientWords) (old mid new : H)
     → (reading mid).faults ≡ (reading old).faults → reading new ≡ reading mid → writing mid ≡ writing old → linking mid ≡ linking old
-    → (result : Result (Unit {0}) Stop) → IfErr result (SaveStopsFiles held words (linking mid) (linking new) (writing mid) (writing new)) → CountsStop H reading writing linking old new result
-counts-saved H reading writing linking held words old mid new =
-    counts-result H reading writing linking held words (Saved held words (linking mid) (linking new) (writing mid) (writing new)) (SavedInPart held words (linking mid) (linking new) (writing mid) (writing new))
-    (SavedOff held words (linking mid) (linking new) (writing mid) (writing new)) old mid new (λ (part : SavedInPart held words (linking mid) (linking new) (writing mid) (writing new)). part.did.image.1)
+    → (result : Result (Unit {0}) Stop) → IfErr result (SaveStopsFiles Steady held words (linking mid) (linking new) (writing mid) (writing new)) → CountsStop H reading writing linking old new result
+counts-saved Steady H reading writing linking held words old mid new =
+    counts-result H reading writing linking held words (Saved Steady held words (linking mid) (linking new) (writing mid) (writing new)) (SavedInPart Steady held words (linking mid) (linking new) (writing mid) (writing new))
+    (SavedOff Steady held words (linking mid) (linking new) (writing mid) (writing new)) old mid new (λ (part : SavedInPart Steady held words (linking mid) (linking new) (writing mid) (writing new)). part.did.image.1)
 
 -- files that were read are those of the names
-pub stops-over : (held : List ℕ → Option (List ℕ)) (words : ClientWords) (left : Option (List ℕ)) (old new : Linking) (before after : Writing) (why : Stop) → SaveStopsFiles held words old new before after why
-    → SaveStopsOver held words left old new before after why
-stops-over held words left old new before after =
-    stops-map (Saved held words old new before after) (Saved held words old new before after) (SavedInPart held words old new before after) (SavedInPart held words old new before after)
-    (SavedOff held words old new before after) (SavedOff held words old new before after) ⊥ (Unit {0}) ⊥ (SomeTooLong held left (files_of words))
+pub saved-later : (Steady Later : Type 0) (later : Steady → Later) (held : List ℕ → Option (List ℕ)) (words : ClientWords) (old new : Linking) (before after : Writing) (ending : Ending)
+    → Saved Later held words old new before after ending → Saved Steady held words old new before after ending
+saved-later Steady Later later held words old new before after ending saved = asked-map held words (λ t a s. saves-later Steady Later later words t a ending old new before after s) saved
+
+pub stops-over : (Steady Later : Type 0) (later : Steady → Later) (held : List ℕ → Option (List ℕ)) (words : ClientWords) (left : Option (List ℕ)) (old new : Linking) (before after : Writing) (why : Stop)
+    → SaveStopsFiles Later held words old new before after why → SaveStopsOver Steady held words left old new before after why
+stops-over Steady Later later held words left old new before after =
+    stops-map (Saved Later held words old new before after) (Saved Steady held words old new before after) (SavedInPart Later held words old new before after) (SavedInPart Steady held words old new before after)
+    (SavedOff Later held words old new before after) (SavedOff Steady held words old new before after) ⊥ (Unit {0}) ⊥ (SomeTooLong held left (files_of words))
     (OutsideDid held words old new before after) (IsOutside held words) (CreateDid held words old new before after) (IsRefusedCreate held words)
-    (λ e did. did) (λ part. part) (λ off. off) (λ none. absurd none) (λ none. absurd none) (λ line place did. did.0) (λ line fault did. did.0)
+    (λ e saved. saved-later Steady Later later held words old new before after e saved)
+    (λ part. asked-map held words (λ t a s. saves-only-later Steady Later later WritesPart words t a old new before after s) part)
+    (or-map (Untouched old new before after) (Asked held words (λ t a. SavesOff Later words t a old new before after)) (Asked held words (λ t a. SavesOff Steady words t a old new before after))
+    (λ off. asked-map held words (λ t a s. saves-off-later Steady Later later words t a old new before after s) off))
+    (λ none. absurd none) (λ none. absurd none) (λ line place did. did.0) (λ line fault did. did.0)
 
 -- ---- what `warm` does
 
@@ -458,7 +487,7 @@ stops-ended E W O C ending stop.Limit is ended = subst E (let same : Some TooMan
 
 module _ (words : ClientWords) (tables : List Table) (ahead : Ahead) (bytes text : List ℕ) (end : End) (by : BeginsAs words tables bytes text end) where
   abbrev pub past : session.Client
-  past = start_past tables by.starts.image.version by.starts.image.kept by.starts.marks
+  past = past_of_start by.starts
 
   pub start-schema : end.client.schema ≡ tables
   start-schema = ap (λ (e : End). e.client.schema) by.end_is ∙ ap (λ (c : Client). c.schema) by.starts.is.client
@@ -473,9 +502,9 @@ module _ (words : ClientWords) (tables : List Table) (ahead : Ahead) (bytes text
   pub start-stands : StandsFor past end.client
   start-stands = subst (λ (e : End). StandsFor past e.client) (sym by.end_is) by.starts.is.stands
 
-  module _ (old new : Linking) (before mid after : Writing) (left : End) where
+  module _ (Steady Later : Type 0) (later : Steady → Later) (old new : Linking) (before mid after : Writing) (left : End) where
     abbrev pub RunsOn : Ending → Type 0
-    RunsOn ending = RanFrom end past words.address (Next 0 (Do Resumed) ahead) ending old new mid after left
+    RunsOn ending = RanSteadilyFrom Later end past words.address (Next 0 (Do Resumed) ahead) ending old new mid after left
 
     abbrev pub BreaksOn : Type 0
     BreaksOn = RanOff end past words.address (Next 0 (Do Resumed) ahead) old new mid after
@@ -483,13 +512,14 @@ module _ (words : ClientWords) (tables : List Table) (ahead : Ahead) (bytes text
     said-of : WritesAll text before mid → WritesAll (text_of_start by.starts) before mid
     said-of said = subst (λ bs. WritesAll bs before mid) by.text_is said
 
-    pub warms-of : WritesAll text before mid → (ending : Ending) → RunsOn ending → Warms words tables ahead bytes ending old new before after
+    pub warms-of : WritesAll text before mid → (ending : Ending) → RunsOn ending → Warms Steady words tables ahead bytes ending old new before after
     warms-of said ending ran = record {
       starts = by.starts;
       middle = mid;
       said = said-of said;
       left = left;
-      ran = subst (λ (e : End). RanFrom e past words.address (Next 0 (Do Resumed) ahead) ending old new mid after left) by.end_is ran;
+      ran = subst (λ (e : End). RanSteadilyFrom Steady e past words.address (Next 0 (Do Resumed) ahead) ending old new mid after left) by.end_is
+          (record { to = ran.to; steady_links = λ z. ran.steady_links (later z) });
     }
 
     pub warms-off : WritesAll text before mid → BreaksOn → WarmsInPart words tables ahead bytes old new before after
@@ -503,9 +533,9 @@ module _ (words : ClientWords) (tables : List Table) (ahead : Ahead) (bytes text
     abbrev pub StopsThere : Stop → Type 0
     StopsThere why = StopsAs RunsOn (RunsOn Unwritten) BreaksOn ⊥ ⊥ (λ line place. ⊥) (λ line fault. ⊥) why
 
-    pub warms-stopped : WritesAll text before mid → (why : Stop) → StopsThere why → WarmStops words tables ahead bytes old new before after why
+    pub warms-stopped : WritesAll text before mid → (why : Stop) → StopsThere why → WarmStops Steady words tables ahead bytes old new before after why
     warms-stopped said =
-        stops-map RunsOn (λ e. Warms words tables ahead bytes e old new before after) (RunsOn Unwritten) (WarmsUnwritten words tables ahead bytes old new before after)
+        stops-map RunsOn (λ e. Warms Steady words tables ahead bytes e old new before after) (RunsOn Unwritten) (WarmsUnwritten Steady words tables ahead bytes old new before after)
         BreaksOn (Untouched old new before after ⊎ WarmsOff words tables ahead bytes old new before after) ⊥ ⊥ ⊥ ⊥ (λ line place. ⊥) (λ line place. ⊥) (λ line fault. ⊥) (λ line fault. ⊥)
         (λ e ran. warms-of said e ran) (λ ran. inl (warms-of said Unwritten ran)) (λ off. inr (inl (warms-off said off))) (λ none. none) (λ none. none) (λ line place none. none) (λ line fault none. none)
 
@@ -514,65 +544,70 @@ module _ (words : ClientWords) (tables : List Table) (ahead : Ahead) (bytes text
   warms-only Writes old new before after same said = record { starts = by.starts; said = subst (λ bs. Writes bs before after) by.text_is said; linking = same }
 
 -- a run that ended so did no more than one that was broken off
-pub warms-in-part : (words : ClientWords) (tables : List Table) (ahead : Ahead) (bytes : List ℕ) (ending : Ending) (old new : Linking) (before after : Writing) → is_unwritten ending ≡ false
-    → Warms words tables ahead bytes ending old new before after → WarmsInPart words tables ahead bytes old new before after
-warms-in-part words tables ahead bytes ending old new before after each warms = record {
+pub warms-in-part : (Steady : Type 0) (words : ClientWords) (tables : List Table) (ahead : Ahead) (bytes : List ℕ) (ending : Ending) (old new : Linking) (before after : Writing) → is_unwritten ending ≡ false
+    → Warms Steady words tables ahead bytes ending old new before after → WarmsInPart words tables ahead bytes old new before after
+warms-in-part Steady words tables ahead bytes ending old new before after each warms = record {
   starts = warms.starts;
   middle = warms.middle;
   said = warms.said;
-  ran = run_in_part (end_of_start warms.starts) warms.left (start_past tables warms.starts.image.version warms.starts.image.kept warms.starts.marks) words.address (Next 0 (Do Resumed) ahead) ending old new warms.middle after each warms.ran;
+  ran = run_in_part (end_of_start warms.starts) warms.left (past_of_start warms.starts) words.address (Next 0 (Do Resumed) ahead) ending old new warms.middle after each warms.ran.to;
 }
 
 module _ (held : List ℕ → Option (List ℕ)) (words : WarmWords) where
   pub over-map : {D E : List Table → Ahead → List ℕ → Type 0} → ((tables : List Table) (ahead : Ahead) (bytes : List ℕ) → D tables ahead bytes → E tables ahead bytes) → AskedOver held words D → AskedOver held words E
   over-map {D} {E} f a = record { image = a.image; image_read = a.image_read; asked = asked-map held words.client (λ tables ahead did. f tables ahead a.image did) a.asked }
 
-  pub warmed-off : (old new : Linking) (before after : Writing) (ending : Ending) → is_unwritten ending ≡ false → Warmed held words old new before after ending → WarmedOff held words old new before after
-  warmed-off old new before after ending each warmed = inr (over-map (λ tables ahead bytes warms. inl (warms-in-part words.client tables ahead bytes ending old new before after each warms)) warmed)
+  pub warmed-off : (Steady : Type 0) (old new : Linking) (before after : Writing) (ending : Ending) → is_unwritten ending ≡ false → Warmed Steady held words old new before after ending → WarmedOff held words old new before after
+  warmed-off Steady old new before after ending each warmed = inr (over-map (λ tables ahead bytes warms. inl (warms-in-part Steady words.client tables ahead bytes ending old new before after each warms)) warmed)
 
   pub warm-asked : (schema script bytes : List ℕ) → AreFiles held words.client schema script → IsWhatIsHeld (held words.image) bytes → (tables : List Table) (ahead : Ahead) → AsksLines words.client.id schema script tables ahead
       → (D : List Table → Ahead → List ℕ → Type 0) → D tables ahead bytes → AskedOver held words D
   warm-asked schema script bytes files image tables ahead asks D did =
       record { image = bytes; image_read = image; asked = record { schema = schema; script = script; files = files; tables = tables; ahead = ahead; asks = asks; did = did } }
 
-  pub warm-stops : (schema script bytes : List ℕ) → AreFiles held words.client schema script → IsWhatIsHeld (held words.image) bytes → (tables : List Table) (ahead : Ahead) → AsksLines words.client.id schema script tables ahead
-      → (old new : Linking) (before after : Writing) (why : Stop) → WarmStops words.client tables ahead bytes old new before after why → WarmStopsFiles held words old new before after (warm_stop.Stopped why)
-  warm-stops schema script bytes files image tables ahead asks old new before after =
-      stops-map (λ e. Warms words.client tables ahead bytes e old new before after) (Warmed held words old new before after)
-      (WarmsUnwritten words.client tables ahead bytes old new before after) (WarmedInPart held words old new before after)
+  pub warm-stops : (Steady : Type 0) (schema script bytes : List ℕ) → AreFiles held words.client schema script → IsWhatIsHeld (held words.image) bytes → (tables : List Table) (ahead : Ahead) → AsksLines words.client.id schema script tables ahead
+      → (old new : Linking) (before after : Writing) (why : Stop) → WarmStops Steady words.client tables ahead bytes old new before after why → WarmStopsFiles Steady held words old new before after (warm_stop.Stopped why)
+  warm-stops Steady schema script bytes files image tables ahead asks old new before after =
+      stops-map (λ e. Warms Steady words.client tables ahead bytes e old new before after) (Warmed Steady held words old new before after)
+      (WarmsUnwritten Steady words.client tables ahead bytes old new before after) (WarmedInPart Steady held words old new before after)
       (Untouched old new before after ⊎ WarmsOff words.client tables ahead bytes old new before after) (WarmedOff held words old new before after)
       ⊥ ⊥ ⊥ ⊥ (λ line place. ⊥) (OutsideDid held words.client old new before after) (λ line fault. ⊥) (CreateDid held words.client old new before after)
-      (λ e. warm-asked schema script bytes files image tables ahead asks (λ t a b. Warms words.client t a b e old new before after))
-      (warm-asked schema script bytes files image tables ahead asks (λ t a b. WarmsUnwritten words.client t a b old new before after))
+      (λ e. warm-asked schema script bytes files image tables ahead asks (λ t a b. Warms Steady words.client t a b e old new before after))
+      (warm-asked schema script bytes files image tables ahead asks (λ t a b. WarmsUnwritten Steady words.client t a b old new before after))
       (or-map (Untouched old new before after) (WarmsOff words.client tables ahead bytes old new before after) (AskedOver held words (λ t a b. WarmsOff words.client t a b old new before after))
       (warm-asked schema script bytes files image tables ahead asks (λ t a b. WarmsOff words.client t a b old new before after)))
       (λ none. none) (λ none. none) (λ line place none. absurd none) (λ line fault none. absurd none)
 
   -- files that were read are those of the names
-  pub warm-over : (left : Option (List ℕ)) (old new : Linking) (before after : Writing) (why : WarmStop) → WarmStopsFiles held words old new before after why → WarmStopsOver held words left old new before after why
-  warm-over left old new before after (warm_stop.NoImage fault) did = did
-  warm-over left old new before after (warm_stop.Stopped why) did =
-      stops-map (Warmed held words old new before after) (Warmed held words old new before after) (WarmedInPart held words old new before after) (WarmedInPart held words old new before after)
+  pub warmed-later : (Steady Later : Type 0) (later : Steady → Later) (old new : Linking) (before after : Writing) (ending : Ending) → Warmed Later held words old new before after ending → Warmed Steady held words old new before after ending
+  warmed-later Steady Later later old new before after ending warmed = over-map (λ t a b w. warms-later Steady Later later words.client t a b ending old new before after w) warmed
+
+  pub warm-over : (Steady Later : Type 0) (later : Steady → Later) (left : Option (List ℕ)) (old new : Linking) (before after : Writing) (why : WarmStop) → WarmStopsFiles Later held words old new before after why → WarmStopsOver Steady held words left old new before after why
+  warm-over Steady Later later left old new before after (warm_stop.NoImage fault) did = did
+  warm-over Steady Later later left old new before after (warm_stop.Stopped why) did =
+      stops-map (Warmed Later held words old new before after) (Warmed Steady held words old new before after) (WarmedInPart Later held words old new before after) (WarmedInPart Steady held words old new before after)
       (WarmedOff held words old new before after) (WarmedOff held words old new before after) ⊥ (Unit {0}) ⊥ (SomeTooLong held left (names_of words))
       (OutsideDid held words.client old new before after) (IsOutside held words.client) (CreateDid held words.client old new before after) (IsRefusedCreate held words.client)
-      (λ e d. d) (λ part. part) (λ off. off) (λ none. absurd none) (λ none. absurd none) (λ line place d. d.0) (λ line fault d. d.0) why did
+      (λ e warmed. warmed-later Steady Later later old new before after e warmed)
+      (λ part. over-map (λ t a b w. warms-unwritten-later Steady Later later words.client t a b old new before after w) part)
+      (λ off. off) (λ none. absurd none) (λ none. absurd none) (λ line place d. d.0) (λ line fault d. d.0) why did
 
 -- what was not written counts as a fault
-unwritten-counts : (held : List ℕ → Option (List ℕ)) (words : WarmWords) (old new : Linking) (before after : Writing) → WarmedInPart held words old new before after → Rose before.faults after.faults
-unwritten-counts held words old new before after part = by part.asked.did
+unwritten-counts : (Steady : Type 0) (held : List ℕ → Option (List ℕ)) (words : WarmWords) (old new : Linking) (before after : Writing) → WarmedInPart Steady held words old new before after → Rose before.faults after.faults
+unwritten-counts Steady held words old new before after part = by part.asked.did
   where
-    by : {tables : List Table} {ahead : Ahead} {bytes : List ℕ} → WarmsUnwritten words.client tables ahead bytes old new before after → Rose before.faults after.faults
-    by {tables} {ahead} {bytes} (inl warms) = subst (λ n. Rose n after.faults) warms.said.1 (warms.ran.run.ran.writes.2)
+    by : {tables : List Table} {ahead : Ahead} {bytes : List ℕ} → WarmsUnwritten Steady words.client tables ahead bytes old new before after → Rose before.faults after.faults
+    by {tables} {ahead} {bytes} (inl warms) = subst (λ n. Rose n after.faults) warms.said.1 (warms.ran.to.run.ran.writes.2)
     by {tables} {ahead} {bytes} (inr only) = only.said.1
 
-pub counts-warmed : (H : Type 0) (reading : H → Reading) (writing : H → Writing) (linking : H → Linking) (held : List ℕ → Option (List ℕ)) (words : WarmWords) (old mid new : H)
+pub counts-warmed : (Steady H : Type 0) (reading : H → Reading) (writing : H → Writing) (linking : H → Linking) (held : List ℕ → Option (List ℕ)) (words : WarmWords) (old mid new : H)
     → (reading mid).faults ≡ (reading old).faults → reading new ≡ reading mid → writing mid ≡ writing old → linking mid ≡ linking old
-    → (result : Result (Unit {0}) WarmStop) → IfErr result (WarmStopsFiles held words (linking mid) (linking new) (writing mid) (writing new)) → CountsWarm H reading writing linking old new result
-counts-warmed H reading writing linking held words old mid new faults read write link (Ok done) stops = ap (λ (r : Reading). r.faults) read ∙ faults
-counts-warmed H reading writing linking held words old mid new faults read write link (Err (warm_stop.NoImage fault)) stops = ap (λ (r : Reading). r.faults) read ∙ faults
-counts-warmed H reading writing linking held words old mid new faults read write link (Err (warm_stop.Stopped why)) stops =
-    counts-stop H reading writing linking held words.client (Warmed held words (linking mid) (linking new) (writing mid) (writing new)) (WarmedInPart held words (linking mid) (linking new) (writing mid) (writing new))
-    (WarmedOff held words (linking mid) (linking new) (writing mid) (writing new)) old mid new (unwritten-counts held words (linking mid) (linking new) (writing mid) (writing new)) faults read write link why stops
+    → (result : Result (Unit {0}) WarmStop) → IfErr result (WarmStopsFiles Steady held words (linking mid) (linking new) (writing mid) (writing new)) → CountsWarm H reading writing linking old new result
+counts-warmed Steady H reading writing linking held words old mid new faults read write link (Ok done) stops = ap (λ (r : Reading). r.faults) read ∙ faults
+counts-warmed Steady H reading writing linking held words old mid new faults read write link (Err (warm_stop.NoImage fault)) stops = ap (λ (r : Reading). r.faults) read ∙ faults
+counts-warmed Steady H reading writing linking held words old mid new faults read write link (Err (warm_stop.Stopped why)) stops =
+    counts-stop H reading writing linking held words.client (Warmed Steady held words (linking mid) (linking new) (writing mid) (writing new)) (WarmedInPart Steady held words (linking mid) (linking new) (writing mid) (writing new))
+    (WarmedOff held words (linking mid) (linking new) (writing mid) (writing new)) old mid new (unwritten-counts Steady held words (linking mid) (linking new) (writing mid) (writing new)) faults read write link why stops
 
 -- what is read as an image is one
 pub image-whole : (schema : List Table) (bytes : List ℕ) (result : Result Image (No ImageFault)) → IsTrue (are_bytes bytes) → Answers result (image_in schema bytes) → IfOk result (λ image. IsTrue (is_image schema image))

@@ -57,8 +57,8 @@ groups-are-right {H} IsSteady host schema script words ending old new before aft
     (subst (λ k. AsksFor k words.id schema script ends.tables ends.ahead) report ends.asks) ran.in_place ran.goes
     (runs-are-true IsSteady host schema script words ending old new before after s pieces ends honest).steps
 
-pub warm-runs-are-true : WarmRunsAreTrue
-warm-runs-are-true schema script words tables ahead bytes ending old new before after s pieces asks warms image honest =
+pub warm-runs-are-true : {H : Type 0} (IsSteady : H → Type 0) → WarmRunsAreTrue IsSteady
+warm-runs-are-true {H} IsSteady host schema script words tables ahead bytes ending old new before after s pieces asks warms image honest =
     let starts = warms.starts in
     started-runs-are-true words.id starts.image.version words.address tables words.limits false true starts.image.kept starts.marks starts.client warms.left s pieces
-    (Next 0 (Do Resumed) ahead) ending old new warms.middle after starts.is image (lines-ask words.id schema script tables ahead asks) warms.ran honest
+    (Next 0 (Do Resumed) ahead) ending old new warms.middle after starts.is image (lines-ask words.id schema script tables ahead asks) warms.ran.to honest

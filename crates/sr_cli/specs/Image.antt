@@ -2,7 +2,7 @@
 use Rattle.std.specs.Prelude.{◌≡◌, ℕ, ◌<◌, ◌^◌, ◌⊎◌, length, Bool, true, false, List, [], ◌∷◌, ◌++◌, Option, Some, None, Result, Ok, Err, flat_map, codes, decimal, if◌then◌else◌}
 use Rattle.std.specs.Io.KnownBytes.{Appends}
 use Rattle.sr_calls.specs.ClientEnds.{End, end_with}
-use Rattle.sr_calls.specs.Runs.{RanFrom, RanNew, RanNewInPart, RanOff}
+use Rattle.sr_calls.specs.Runs.{RanNewInPart, RanNewSteadily, RanOff, RanSteadilyFrom}
 use Rattle.sr_calls.specs.Started.{IsStarted}
 use Rattle.sr_cell.specs.declared.fault.Fault.{Fault}
 use Rattle.sr_cell.specs.declared.list.No.{No}
@@ -114,23 +114,27 @@ has_image other = false
 abbrev pub bytes_left : List Table → End → Ending → List ℕ
 bytes_left tables left ending = if has_image ending then image_bytes tables (held_image left.client) else []
 
--- A new client of the words' number ran, as that of `client` does, but without writing a line.
-abbrev pub RanQuietly : ClientWords → List Table → Ahead → Ending → Linking → Linking → Writing → Writing → Type 0
-RanQuietly words tables ahead ending old new before after = RanNew words.id words.address tables words.limits false false (Next 0 (Do Resumed) ahead) ending old new before after
+-- A new client of the words' number ran, as that of `client` does, but without writing a line. Over a steady host that had a peer for each of
+-- its calls, each failure was that a connection ended by itself.
+abbrev pub RanQuietly : Type 0 → ClientWords → List Table → Ahead → Ending → Linking → Linking → Writing → Writing → Type 0
+RanQuietly Steady words tables ahead ending old new before after =
+    RanNewSteadily Steady words.id words.address tables words.limits false false (Next 0 (Do Resumed) ahead) ending old new before after
 
 -- And then all was written of the image of the client that it left, where one is; and nothing else was.
-pub record Saves (words : ClientWords) (tables : List Table) (ahead : Ahead) (ending : Ending) (old new : Linking) (before after : Writing) : Type 0 where
+pub record Saves (Steady : Type 0) (words : ClientWords) (tables : List Table) (ahead : Ahead) (ending : Ending)
+    (old new : Linking) (before after : Writing) : Type 0 where
   pub middle : Writing
-  pub ran : RanQuietly words tables ahead ending old new before middle
-  pub image : WritesAll (bytes_left tables ran.left ending) before after
+  pub ran : RanQuietly Steady words tables ahead ending old new before middle
+  pub image : WritesAll (bytes_left tables ran.run.left ending) before after
 
 -- Or only this was: a part of it, or a beginning out of memory.
-pub record SavesOnly (Writes : List ℕ → Writing → Writing → Type 0) (words : ClientWords) (tables : List Table) (ahead : Ahead) (old new : Linking) (before after : Writing) : Type 0 where
+pub record SavesOnly (Writes : List ℕ → Writing → Writing → Type 0) (Steady : Type 0) (words : ClientWords) (tables : List Table)
+    (ahead : Ahead) (old new : Linking) (before after : Writing) : Type 0 where
   pub ending : Ending
   pub done : has_image ending ≡ true
   pub middle : Writing
-  pub ran : RanQuietly words tables ahead ending old new before middle
-  pub image : Writes (image_bytes tables (held_image ran.left.client)) before after
+  pub ran : RanQuietly Steady words tables ahead ending old new before middle
+  pub image : Writes (image_bytes tables (held_image ran.run.left.client)) before after
 
 -- Or the run was broken off, out of memory, and nothing was written.
 pub record SavesNothing (words : ClientWords) (tables : List Table) (ahead : Ahead) (old new : Linking) (before after : Writing) : Type 0 where
@@ -139,8 +143,9 @@ pub record SavesNothing (words : ClientWords) (tables : List Table) (ahead : Ahe
   pub none : WritesAll [] before after
 
 -- what was done out of memory
-abbrev pub SavesOff : ClientWords → List Table → Ahead → Linking → Linking → Writing → Writing → Type 0
-SavesOff words tables ahead old new before after = SavesNothing words tables ahead old new before after ⊎ SavesOnly WritesOff words tables ahead old new before after
+abbrev pub SavesOff : Type 0 → ClientWords → List Table → Ahead → Linking → Linking → Writing → Writing → Type 0
+SavesOff Steady words tables ahead old new before after =
+    SavesNothing words tables ahead old new before after ⊎ SavesOnly WritesOff Steady words tables ahead old new before after
 
 -- ---- what `warm` does
 
@@ -159,13 +164,19 @@ text_of_start {words} {tables} {bytes} s = start_text tables words.id s.image.ve
 abbrev pub end_of_start : {words : ClientWords} {tables : List Table} {bytes : List ℕ} → Starts words tables bytes → End
 end_of_start {words} {tables} {bytes} s = end_with false true s.client None
 
--- The lines of its start are written; and then that client ran, as that of `client` does, and ended so.
-pub record Warms (words : ClientWords) (tables : List Table) (ahead : Ahead) (bytes : List ℕ) (ending : Ending) (old new : Linking) (before after : Writing) : Type 0 where
+abbrev pub past_of_start : {words : ClientWords} {tables : List Table} {bytes : List ℕ} → Starts words tables bytes → session.Client
+past_of_start {words} {tables} {bytes} s = start_past tables s.image.version s.image.kept s.marks
+
+-- The lines of its start are written; and then that client ran, as that of `client` does, and ended so. Over a steady host that had a peer for
+-- each of its calls, each failure was that a connection ended by itself.
+pub record Warms (Steady : Type 0) (words : ClientWords) (tables : List Table) (ahead : Ahead) (bytes : List ℕ) (ending : Ending)
+    (old new : Linking) (before after : Writing) : Type 0 where
   pub starts : Starts words tables bytes
   pub middle : Writing
   pub said : WritesAll (text_of_start starts) before middle
   pub left : End
-  pub ran : RanFrom (end_of_start starts) (start_past tables starts.image.version starts.image.kept starts.marks) words.address (Next 0 (Do Resumed) ahead) ending old new middle after left
+  pub ran : RanSteadilyFrom Steady (end_of_start starts) (past_of_start starts) words.address (Next 0 (Do Resumed) ahead)
+      ending old new middle after left
 
 -- Or only this is written of these lines, and the client did not run.
 pub record WarmsOnly (Writes : List ℕ → Writing → Writing → Type 0) (words : ClientWords) (tables : List Table) (ahead : Ahead) (bytes : List ℕ) (old new : Linking) (before after : Writing) : Type 0 where
@@ -178,11 +189,12 @@ pub record WarmsInPart (words : ClientWords) (tables : List Table) (ahead : Ahea
   pub starts : Starts words tables bytes
   pub middle : Writing
   pub said : WritesAll (text_of_start starts) before middle
-  pub ran : RanOff (end_of_start starts) (start_past tables starts.image.version starts.image.kept starts.marks) words.address (Next 0 (Do Resumed) ahead) old new middle after
+  pub ran : RanOff (end_of_start starts) (past_of_start starts) words.address (Next 0 (Do Resumed) ahead) old new middle after
 
 -- what was not written
-abbrev pub WarmsUnwritten : ClientWords → List Table → Ahead → List ℕ → Linking → Linking → Writing → Writing → Type 0
-WarmsUnwritten words tables ahead bytes old new before after = Warms words tables ahead bytes Unwritten old new before after ⊎ WarmsOnly WritesPart words tables ahead bytes old new before after
+abbrev pub WarmsUnwritten : Type 0 → ClientWords → List Table → Ahead → List ℕ → Linking → Linking → Writing → Writing → Type 0
+WarmsUnwritten Steady words tables ahead bytes old new before after =
+    Warms Steady words tables ahead bytes Unwritten old new before after ⊎ WarmsOnly WritesPart words tables ahead bytes old new before after
 
 -- what was done out of memory
 abbrev pub WarmsOff : ClientWords → List Table → Ahead → List ℕ → Linking → Linking → Writing → Writing → Type 0
@@ -209,40 +221,46 @@ pub record ComesTo (held : List ℕ → Option (List ℕ)) (words : ClientWords)
   pub limit : status ≡ 11 → Ended TooMany
 
 -- how a run of `save` ended, over the files that were read
-abbrev pub Saved : (List ℕ → Option (List ℕ)) → ClientWords → Linking → Linking → Writing → Writing → Ending → Type 0
-Saved held words old new before after ending = Asked held words (λ tables ahead. Saves words tables ahead ending old new before after)
+abbrev pub Saved : Type 0 → (List ℕ → Option (List ℕ)) → ClientWords → Linking → Linking → Writing → Writing → Ending → Type 0
+Saved Steady held words old new before after ending = Asked held words (λ tables ahead. Saves Steady words tables ahead ending old new before after)
 
-abbrev pub SavedInPart : (List ℕ → Option (List ℕ)) → ClientWords → Linking → Linking → Writing → Writing → Type 0
-SavedInPart held words old new before after = Asked held words (λ tables ahead. SavesOnly WritesPart words tables ahead old new before after)
+abbrev pub SavedInPart : Type 0 → (List ℕ → Option (List ℕ)) → ClientWords → Linking → Linking → Writing → Writing → Type 0
+SavedInPart Steady held words old new before after = Asked held words (λ tables ahead. SavesOnly WritesPart Steady words tables ahead old new before after)
 
-abbrev pub SavedOff : (List ℕ → Option (List ℕ)) → ClientWords → Linking → Linking → Writing → Writing → Type 0
-SavedOff held words old new before after = Untouched old new before after ⊎ Asked held words (λ tables ahead. SavesOff words tables ahead old new before after)
+abbrev pub SavedOff : Type 0 → (List ℕ → Option (List ℕ)) → ClientWords → Linking → Linking → Writing → Writing → Type 0
+SavedOff Steady held words old new before after =
+    Untouched old new before after ⊎ Asked held words (λ tables ahead. SavesOff Steady words tables ahead old new before after)
 
 -- What `save` does, by the status that it ends with.
-abbrev pub SavesBy : (List ℕ → Option (List ℕ)) → ClientWords → Reading → Linking → Linking → Writing → Writing → Option (List ℕ) → Option (List ℕ) → ℕ → Type 0
-SavesBy held words to old new before after first last status =
-    ComesTo held words (Saved held words old new before after) (SavedInPart held words old new before after) (SavedOff held words old new before after)
-    (SomeTooLong held to.left (files_of words)) first last status
+abbrev pub SavesBy : Type 0 → (List ℕ → Option (List ℕ)) → ClientWords → Reading → Linking → Linking → Writing → Writing
+    → Option (List ℕ) → Option (List ℕ) → ℕ → Type 0
+SavesBy Steady held words to old new before after first last status =
+    ComesTo held words (Saved Steady held words old new before after) (SavedInPart Steady held words old new before after)
+    (SavedOff Steady held words old new before after) (SomeTooLong held to.left (files_of words)) first last status
 
 -- how a run of `warm` ended, over the files and the image that were read
-abbrev pub Warmed : (List ℕ → Option (List ℕ)) → WarmWords → Linking → Linking → Writing → Writing → Ending → Type 0
-Warmed held words old new before after ending = AskedOver held words (λ tables ahead bytes. Warms words.client tables ahead bytes ending old new before after)
+abbrev pub Warmed : Type 0 → (List ℕ → Option (List ℕ)) → WarmWords → Linking → Linking → Writing → Writing → Ending → Type 0
+Warmed Steady held words old new before after ending =
+    AskedOver held words (λ tables ahead bytes. Warms Steady words.client tables ahead bytes ending old new before after)
 
-abbrev pub WarmedInPart : (List ℕ → Option (List ℕ)) → WarmWords → Linking → Linking → Writing → Writing → Type 0
-WarmedInPart held words old new before after = AskedOver held words (λ tables ahead bytes. WarmsUnwritten words.client tables ahead bytes old new before after)
+abbrev pub WarmedInPart : Type 0 → (List ℕ → Option (List ℕ)) → WarmWords → Linking → Linking → Writing → Writing → Type 0
+WarmedInPart Steady held words old new before after =
+    AskedOver held words (λ tables ahead bytes. WarmsUnwritten Steady words.client tables ahead bytes old new before after)
 
 abbrev pub WarmedOff : (List ℕ → Option (List ℕ)) → WarmWords → Linking → Linking → Writing → Writing → Type 0
-WarmedOff held words old new before after = Untouched old new before after ⊎ AskedOver held words (λ tables ahead bytes. WarmsOff words.client tables ahead bytes old new before after)
+WarmedOff held words old new before after =
+    Untouched old new before after ⊎ AskedOver held words (λ tables ahead bytes. WarmsOff words.client tables ahead bytes old new before after)
 
 -- the names of both files and of the image, in the order in which they are read
 abbrev pub names_of : WarmWords → List (List ℕ)
 names_of words = words.client.schema ∷ words.client.script ∷ words.image ∷ []
 
 -- What `warm` does, by the status that it ends with.
-abbrev pub WarmsBy : (List ℕ → Option (List ℕ)) → WarmWords → Reading → Linking → Linking → Writing → Writing → Option (List ℕ) → Option (List ℕ) → ℕ → Type 0
-WarmsBy held words to old new before after first last status =
-    ComesTo held words.client (Warmed held words old new before after) (WarmedInPart held words old new before after) (WarmedOff held words old new before after)
-    (SomeTooLong held to.left (names_of words)) first last status
+abbrev pub WarmsBy : Type 0 → (List ℕ → Option (List ℕ)) → WarmWords → Reading → Linking → Linking → Writing → Writing
+    → Option (List ℕ) → Option (List ℕ) → ℕ → Type 0
+WarmsBy Steady held words to old new before after first last status =
+    ComesTo held words.client (Warmed Steady held words old new before after) (WarmedInPart Steady held words old new before after)
+    (WarmedOff held words old new before after) (SomeTooLong held to.left (names_of words)) first last status
 
 -- the bytes are no image over the tables of the files, for this reason
 abbrev pub IsNoImage : (List ℕ → Option (List ℕ)) → WarmWords → ImageFault → Type 0
@@ -282,14 +300,14 @@ pub record FitsImage (id : ℕ) (schema script bytes : List ℕ) (status : ℕ) 
 -- What `save` does over a host, by the status that it ends with.
 pub record SavesOver (H : Type 0) (held : H → List ℕ → Option (List ℕ)) (reading : H → Reading) (writing : H → Writing) (linking : H → Linking) (complaints : H → Option (List ℕ)) (IsSteady : H → Type 0) (old new : H) (words : ClientWords) (status : ℕ) : Type 0 where
   pub only : IsEnd status
-  pub comes : SavesBy (held old) words (reading new) (linking old) (linking new) (writing old) (writing new) (complaints old) (complaints new) status
+  pub comes : SavesBy (IsSteady old) (held old) words (reading new) (linking old) (linking new) (writing old) (writing new) (complaints old) (complaints new) status
   pub steady : IsSteady old → (schema script : List ℕ) → AreHeld (held old) words schema script → FitsFiles (fault_by words) schema script status
   pub steady_writes : IsSteady old → ¬ (status ≡ 4)
 
 -- What `warm` does over a host, by the status that it ends with.
 pub record WarmsOver (H : Type 0) (held : H → List ℕ → Option (List ℕ)) (reading : H → Reading) (writing : H → Writing) (linking : H → Linking) (complaints : H → Option (List ℕ)) (IsSteady : H → Type 0) (old new : H) (words : WarmWords) (status : ℕ) : Type 0 where
   pub only : IsEnd status ⊎ (status ≡ 13)
-  pub comes : WarmsBy (held old) words (reading new) (linking old) (linking new) (writing old) (writing new) (complaints old) (complaints new) status
+  pub comes : WarmsBy (IsSteady old) (held old) words (reading new) (linking old) (linking new) (writing old) (writing new) (complaints old) (complaints new) status
   pub steady : IsSteady old → (schema script bytes : List ℕ) → AreWarmHeld (held old) words schema script bytes → FitsImage words.client.id schema script bytes status
   pub steady_writes : IsSteady old → ¬ (status ≡ 4)
   pub no_image : status ≡ 13 → NamedImage (held old) words (linking old) (linking new) (writing old) (writing new) (complaints old) (complaints new)
@@ -318,37 +336,43 @@ abbrev pub CreateDid : (List ℕ → Option (List ℕ)) → ClientWords → Link
 CreateDid held words old new before after line fault = IsRefusedCreate held words line fault × Untouched old new before after
 
 -- why `save` stops that was given tables and a plan
-abbrev pub SaveStops : ClientWords → List Table → Ahead → Linking → Linking → Writing → Writing → Stop → Type 0
-SaveStops words tables ahead old new before after why = StopsAs (λ ending. Saves words tables ahead ending old new before after)
-    (SavesOnly WritesPart words tables ahead old new before after) (Untouched old new before after ⊎ SavesOff words tables ahead old new before after) ⊥ ⊥ (λ line place. ⊥) (λ line fault. ⊥) why
+abbrev pub SaveStops : Type 0 → ClientWords → List Table → Ahead → Linking → Linking → Writing → Writing → Stop → Type 0
+SaveStops Steady words tables ahead old new before after why = StopsAs (λ ending. Saves Steady words tables ahead ending old new before after)
+    (SavesOnly WritesPart Steady words tables ahead old new before after)
+    (Untouched old new before after ⊎ SavesOff Steady words tables ahead old new before after) ⊥ ⊥ (λ line place. ⊥) (λ line fault. ⊥) why
 
 -- that was given files
-abbrev pub SaveStopsFiles : (List ℕ → Option (List ℕ)) → ClientWords → Linking → Linking → Writing → Writing → Stop → Type 0
-SaveStopsFiles held words old new before after why =
-    StopsAs (Saved held words old new before after) (SavedInPart held words old new before after) (SavedOff held words old new before after) ⊥ ⊥
+abbrev pub SaveStopsFiles : Type 0 → (List ℕ → Option (List ℕ)) → ClientWords → Linking → Linking → Writing → Writing → Stop → Type 0
+SaveStopsFiles Steady held words old new before after why =
+    StopsAs (Saved Steady held words old new before after) (SavedInPart Steady held words old new before after)
+    (SavedOff Steady held words old new before after) ⊥ ⊥
     (OutsideDid held words old new before after) (CreateDid held words old new before after) why
 
 -- that was given their names
-abbrev pub SaveStopsOver : (List ℕ → Option (List ℕ)) → ClientWords → Option (List ℕ) → Linking → Linking → Writing → Writing → Stop → Type 0
-SaveStopsOver held words left old new before after why =
-    StopsAs (Saved held words old new before after) (SavedInPart held words old new before after) (SavedOff held words old new before after)
+abbrev pub SaveStopsOver : Type 0 → (List ℕ → Option (List ℕ)) → ClientWords → Option (List ℕ) → Linking → Linking → Writing → Writing → Stop → Type 0
+SaveStopsOver Steady held words left old new before after why =
+    StopsAs (Saved Steady held words old new before after) (SavedInPart Steady held words old new before after)
+    (SavedOff Steady held words old new before after)
     (Unit {0}) (SomeTooLong held left (files_of words)) (IsOutside held words) (IsRefusedCreate held words) why
 
 -- the same of `warm`
-abbrev pub WarmStops : ClientWords → List Table → Ahead → List ℕ → Linking → Linking → Writing → Writing → Stop → Type 0
-WarmStops words tables ahead bytes old new before after why = StopsAs (λ ending. Warms words tables ahead bytes ending old new before after)
-    (WarmsUnwritten words tables ahead bytes old new before after) (Untouched old new before after ⊎ WarmsOff words tables ahead bytes old new before after) ⊥ ⊥ (λ line place. ⊥) (λ line fault. ⊥) why
+abbrev pub WarmStops : Type 0 → ClientWords → List Table → Ahead → List ℕ → Linking → Linking → Writing → Writing → Stop → Type 0
+WarmStops Steady words tables ahead bytes old new before after why = StopsAs (λ ending. Warms Steady words tables ahead bytes ending old new before after)
+    (WarmsUnwritten Steady words tables ahead bytes old new before after)
+    (Untouched old new before after ⊎ WarmsOff words tables ahead bytes old new before after) ⊥ ⊥ (λ line place. ⊥) (λ line fault. ⊥) why
 
-abbrev pub WarmStopsFiles : (List ℕ → Option (List ℕ)) → WarmWords → Linking → Linking → Writing → Writing → WarmStop → Type 0
-WarmStopsFiles held words old new before after (warm_stop.NoImage fault) = IsNoImage held words fault × Untouched old new before after
-WarmStopsFiles held words old new before after (warm_stop.Stopped why) =
-    StopsAs (Warmed held words old new before after) (WarmedInPart held words old new before after) (WarmedOff held words old new before after) ⊥ ⊥
+abbrev pub WarmStopsFiles : Type 0 → (List ℕ → Option (List ℕ)) → WarmWords → Linking → Linking → Writing → Writing → WarmStop → Type 0
+WarmStopsFiles Steady held words old new before after (warm_stop.NoImage fault) = IsNoImage held words fault × Untouched old new before after
+WarmStopsFiles Steady held words old new before after (warm_stop.Stopped why) =
+    StopsAs (Warmed Steady held words old new before after) (WarmedInPart Steady held words old new before after)
+    (WarmedOff held words old new before after) ⊥ ⊥
     (OutsideDid held words.client old new before after) (CreateDid held words.client old new before after) why
 
-abbrev pub WarmStopsOver : (List ℕ → Option (List ℕ)) → WarmWords → Option (List ℕ) → Linking → Linking → Writing → Writing → WarmStop → Type 0
-WarmStopsOver held words left old new before after (warm_stop.NoImage fault) = IsNoImage held words fault × Untouched old new before after
-WarmStopsOver held words left old new before after (warm_stop.Stopped why) =
-    StopsAs (Warmed held words old new before after) (WarmedInPart held words old new before after) (WarmedOff held words old new before after)
+abbrev pub WarmStopsOver : Type 0 → (List ℕ → Option (List ℕ)) → WarmWords → Option (List ℕ) → Linking → Linking → Writing → Writing → WarmStop → Type 0
+WarmStopsOver Steady held words left old new before after (warm_stop.NoImage fault) = IsNoImage held words fault × Untouched old new before after
+WarmStopsOver Steady held words left old new before after (warm_stop.Stopped why) =
+    StopsAs (Warmed Steady held words old new before after) (WarmedInPart Steady held words old new before after)
+    (WarmedOff held words old new before after)
     (Unit {0}) (SomeTooLong held left (names_of words)) (IsOutside held words.client) (IsRefusedCreate held words.client) why
 
 -- which faults are counted, by how `warm` ended
@@ -379,9 +403,10 @@ StopsQuietly tables left ending before after why =
     ((has_image ending ≡ true) × WritesOff (image_bytes tables (held_image left.client)) before after) ⊥ ⊥ (λ line place. ⊥) (λ line fault. ⊥) why
 
 -- the end that a run left, of which the image is written
-pub record LeftBy (words : ClientWords) (tables : List Table) (ahead : Ahead) (ending : Ending) (left : End) (old new : Linking) (before after : Writing) : Type 0 where
-  pub ran : RanQuietly words tables ahead ending old new before after
-  pub is : ran.left ≡ left
+pub record LeftBy (Steady : Type 0) (words : ClientWords) (tables : List Table) (ahead : Ahead) (ending : Ending) (left : End)
+    (old new : Linking) (before after : Writing) : Type 0 where
+  pub ran : RanQuietly Steady words tables ahead ending old new before after
+  pub is : ran.run.left ≡ left
 
 -- the client of a start, and its lines
 pub record BeginsAs (words : ClientWords) (tables : List Table) (bytes text : List ℕ) (end : End) : Type 0 where
@@ -397,49 +422,61 @@ pub record AreShortFiles (held : List ℕ → Option (List ℕ)) (words : Client
 
 -- ---- over a host
 
-abbrev pub LeavesEnd : (H : Type 0) → (H → Linking) → (H → Writing) → H → H → ClientWords → List Table → Ahead → Ending → End → Type 0
-LeavesEnd H linking writing old new words tables ahead ending left = LeftBy words tables ahead ending left (linking old) (linking new) (writing old) (writing new)
+abbrev pub LeavesEnd : (H : Type 0) → (H → Linking) → (H → Writing) → (H → Type 0) → H → H → ClientWords → List Table → Ahead → Ending → End → Type 0
+LeavesEnd H linking writing IsSteady old new words tables ahead ending left =
+    LeftBy (IsSteady old) words tables ahead ending left (linking old) (linking new) (writing old) (writing new)
 
 abbrev pub BreaksQuietly : (H : Type 0) → (H → Linking) → (H → Writing) → H → H → ClientWords → List Table → Ahead → Type 0
 BreaksQuietly H linking writing old new words tables ahead =
     Untouched (linking old) (linking new) (writing old) (writing new) ⊎ SavesNothing words tables ahead (linking old) (linking new) (writing old) (writing new)
 
-abbrev pub SavesOf : (H : Type 0) → (H → Linking) → (H → Writing) → H → H → ClientWords → List Table → Ahead → Ending → Type 0
-SavesOf H linking writing old new words tables ahead ending = Saves words tables ahead ending (linking old) (linking new) (writing old) (writing new)
+abbrev pub SavesOf : (H : Type 0) → (H → Linking) → (H → Writing) → (H → Type 0) → H → H → ClientWords → List Table → Ahead → Ending → Type 0
+SavesOf H linking writing IsSteady old new words tables ahead ending =
+    Saves (IsSteady old) words tables ahead ending (linking old) (linking new) (writing old) (writing new)
 
-abbrev pub StopsSavingOf : (H : Type 0) → (H → Linking) → (H → Writing) → H → H → ClientWords → List Table → Ahead → Stop → Type 0
-StopsSavingOf H linking writing old new words tables ahead why = SaveStops words tables ahead (linking old) (linking new) (writing old) (writing new) why
+abbrev pub StopsSavingOf : (H : Type 0) → (H → Linking) → (H → Writing) → (H → Type 0) → H → H → ClientWords → List Table → Ahead → Stop → Type 0
+StopsSavingOf H linking writing IsSteady old new words tables ahead why =
+    SaveStops (IsSteady old) words tables ahead (linking old) (linking new) (writing old) (writing new) why
 
-abbrev pub IsSaved : (H : Type 0) → (H → List ℕ → Option (List ℕ)) → (H → Linking) → (H → Writing) → H → H → ClientWords → Ending → Type 0
-IsSaved H held linking writing old new words ending = Saved (held old) words (linking old) (linking new) (writing old) (writing new) ending
+abbrev pub IsSaved : (H : Type 0) → (H → List ℕ → Option (List ℕ)) → (H → Linking) → (H → Writing) → (H → Type 0) → H → H → ClientWords → Ending → Type 0
+IsSaved H held linking writing IsSteady old new words ending =
+    Saved (IsSteady old) (held old) words (linking old) (linking new) (writing old) (writing new) ending
 
-abbrev pub StopsSavingFiles : (H : Type 0) → (H → List ℕ → Option (List ℕ)) → (H → Linking) → (H → Writing) → H → H → ClientWords → Stop → Type 0
-StopsSavingFiles H held linking writing old new words why = SaveStopsFiles (held old) words (linking old) (linking new) (writing old) (writing new) why
+abbrev pub StopsSavingFiles : (H : Type 0) → (H → List ℕ → Option (List ℕ)) → (H → Linking) → (H → Writing) → (H → Type 0) → H → H → ClientWords → Stop → Type 0
+StopsSavingFiles H held linking writing IsSteady old new words why =
+    SaveStopsFiles (IsSteady old) (held old) words (linking old) (linking new) (writing old) (writing new) why
 
-abbrev pub StopsSaving : (H : Type 0) → (H → List ℕ → Option (List ℕ)) → (H → Reading) → (H → Linking) → (H → Writing) → H → H → ClientWords → Stop → Type 0
-StopsSaving H held reading linking writing old new words why = SaveStopsOver (held old) words (reading new).left (linking old) (linking new) (writing old) (writing new) why
+abbrev pub StopsSaving : (H : Type 0) → (H → List ℕ → Option (List ℕ)) → (H → Reading) → (H → Linking) → (H → Writing) → (H → Type 0) → H → H → ClientWords → Stop → Type 0
+StopsSaving H held reading linking writing IsSteady old new words why =
+    SaveStopsOver (IsSteady old) (held old) words (reading new).left (linking old) (linking new) (writing old) (writing new) why
 
-abbrev pub WarmsOf : (H : Type 0) → (H → Linking) → (H → Writing) → H → H → ClientWords → List Table → Ahead → List ℕ → Ending → Type 0
-WarmsOf H linking writing old new words tables ahead bytes ending = Warms words tables ahead bytes ending (linking old) (linking new) (writing old) (writing new)
+abbrev pub WarmsOf : (H : Type 0) → (H → Linking) → (H → Writing) → (H → Type 0) → H → H → ClientWords → List Table → Ahead → List ℕ → Ending → Type 0
+WarmsOf H linking writing IsSteady old new words tables ahead bytes ending =
+    Warms (IsSteady old) words tables ahead bytes ending (linking old) (linking new) (writing old) (writing new)
 
-abbrev pub StopsWarmingOf : (H : Type 0) → (H → Linking) → (H → Writing) → H → H → ClientWords → List Table → Ahead → List ℕ → Stop → Type 0
-StopsWarmingOf H linking writing old new words tables ahead bytes why = WarmStops words tables ahead bytes (linking old) (linking new) (writing old) (writing new) why
+abbrev pub StopsWarmingOf : (H : Type 0) → (H → Linking) → (H → Writing) → (H → Type 0) → H → H → ClientWords → List Table → Ahead → List ℕ → Stop → Type 0
+StopsWarmingOf H linking writing IsSteady old new words tables ahead bytes why =
+    WarmStops (IsSteady old) words tables ahead bytes (linking old) (linking new) (writing old) (writing new) why
 
 -- how a run of this end over a plan ended, and why it stops
-abbrev pub RanOn : (H : Type 0) → (H → Linking) → (H → Writing) → H → H → End → session.Client → List ℕ → Ahead → End → Ending → Type 0
-RanOn H linking writing old new end past address ahead left ending =
-    RanFrom end past address (Next 0 (Do Resumed) ahead) ending (linking old) (linking new) (writing old) (writing new) left
+abbrev pub RanOn : (H : Type 0) → (H → Linking) → (H → Writing) → (H → Type 0) → H → H → End → session.Client → List ℕ → Ahead → End → Ending → Type 0
+RanOn H linking writing IsSteady old new end past address ahead left ending =
+    RanSteadilyFrom (IsSteady old) end past address (Next 0 (Do Resumed) ahead) ending (linking old) (linking new) (writing old) (writing new) left
 
-abbrev pub StopsOn : (H : Type 0) → (H → Linking) → (H → Writing) → H → H → End → session.Client → List ℕ → Ahead → End → Stop → Type 0
-StopsOn H linking writing old new end past address ahead left why =
-    StopsAs (RanOn H linking writing old new end past address ahead left) (RanOn H linking writing old new end past address ahead left Unwritten)
+abbrev pub StopsOn : (H : Type 0) → (H → Linking) → (H → Writing) → (H → Type 0) → H → H → End → session.Client → List ℕ → Ahead → End → Stop → Type 0
+StopsOn H linking writing IsSteady old new end past address ahead left why =
+    StopsAs (RanOn H linking writing IsSteady old new end past address ahead left)
+    (RanOn H linking writing IsSteady old new end past address ahead left Unwritten)
     (RanOff end past address (Next 0 (Do Resumed) ahead) (linking old) (linking new) (writing old) (writing new)) ⊥ ⊥ (λ line place. ⊥) (λ line fault. ⊥) why
 
-abbrev pub IsWarmed : (H : Type 0) → (H → List ℕ → Option (List ℕ)) → (H → Linking) → (H → Writing) → H → H → WarmWords → Ending → Type 0
-IsWarmed H held linking writing old new words ending = Warmed (held old) words (linking old) (linking new) (writing old) (writing new) ending
+abbrev pub IsWarmed : (H : Type 0) → (H → List ℕ → Option (List ℕ)) → (H → Linking) → (H → Writing) → (H → Type 0) → H → H → WarmWords → Ending → Type 0
+IsWarmed H held linking writing IsSteady old new words ending =
+    Warmed (IsSteady old) (held old) words (linking old) (linking new) (writing old) (writing new) ending
 
-abbrev pub StopsWarmingFiles : (H : Type 0) → (H → List ℕ → Option (List ℕ)) → (H → Linking) → (H → Writing) → H → H → WarmWords → WarmStop → Type 0
-StopsWarmingFiles H held linking writing old new words why = WarmStopsFiles (held old) words (linking old) (linking new) (writing old) (writing new) why
+abbrev pub StopsWarmingFiles : (H : Type 0) → (H → List ℕ → Option (List ℕ)) → (H → Linking) → (H → Writing) → (H → Type 0) → H → H → WarmWords → WarmStop → Type 0
+StopsWarmingFiles H held linking writing IsSteady old new words why =
+    WarmStopsFiles (IsSteady old) (held old) words (linking old) (linking new) (writing old) (writing new) why
 
-abbrev pub StopsWarming : (H : Type 0) → (H → List ℕ → Option (List ℕ)) → (H → Reading) → (H → Linking) → (H → Writing) → H → H → WarmWords → WarmStop → Type 0
-StopsWarming H held reading linking writing old new words why = WarmStopsOver (held old) words (reading new).left (linking old) (linking new) (writing old) (writing new) why
+abbrev pub StopsWarming : (H : Type 0) → (H → List ℕ → Option (List ℕ)) → (H → Reading) → (H → Linking) → (H → Writing) → (H → Type 0) → H → H → WarmWords → WarmStop → Type 0
+StopsWarming H held reading linking writing IsSteady old new words why =
+    WarmStopsOver (IsSteady old) (held old) words (reading new).left (linking old) (linking new) (writing old) (writing new) why

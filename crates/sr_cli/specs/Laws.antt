@@ -5,7 +5,6 @@ use Rattle.sr_calls.specs.ClientEnds.{End}
 use Rattle.sr_calls.specs.Runs.{new_past}
 use Rattle.sr_calls.specs.Started.{AreTrueAt}
 use Rattle.sr_cell.specs.declared.table.Table.{Table}
-use Rattle.sr_client.specs.Starting.{start_past}
 use Rattle.sr_dial.specs.Calls.{Call, all_done}
 use Rattle.sr_dial.specs.Following.{Ahead}
 use Rattle.sr_dial_laws.specs.Honest.{IsHonest, IsTrue}
@@ -18,7 +17,7 @@ use Rattle.sr_report.specs.Laws as report
 use Rattle.sr_words.specs.declared.command.ClientKind.TheVariants as kind
 use Rattle.sr_words.specs.declared.command.ClientWords.{ClientWords}
 use Rattle.sr_cli.specs.Client.{Ends}
-use Rattle.sr_cli.specs.Image.{Warms}
+use Rattle.sr_cli.specs.Image.{Warms, past_of_start}
 use Rattle.sr_cli.specs.Kinds.{AsksLines}
 
 -- the calls of a run
@@ -49,11 +48,11 @@ GroupsAreRight {H} IsSteady = (host : H) (schema script : List ℕ) (words : Cli
 
 -- So is each step of a run of `warm`, where its image is true of the server before the first frame: its version is one of the server's, and
 -- each part has just the rows there that lie in its rects.
-abbrev pub WarmRunsAreTrue : Type 0
-WarmRunsAreTrue = (schema script : List ℕ) (words : ClientWords) (tables : List Table) (ahead : Ahead) (bytes : List ℕ) (ending : Ending)
+abbrev pub WarmRunsAreTrue : {H : Type 0} → (H → Type 0) → Type 0
+WarmRunsAreTrue {H} IsSteady = (host : H) (schema script : List ℕ) (words : ClientWords) (tables : List Table) (ahead : Ahead) (bytes : List ℕ) (ending : Ending)
     (old new : Linking) (before after : Writing) (s : Server) (pieces : List (List Input))
-    → AsksLines words.id schema script tables ahead → (warms : Warms words tables ahead bytes ending old new before after)
+    → AsksLines words.id schema script tables ahead → (warms : Warms (IsSteady host) words tables ahead bytes ending old new before after)
     → AreTrueAt s.database warms.starts.image.version warms.starts.image.kept
-    → IsHonest tables s pieces (warms.ran.run.ran.earlier ++ warms.ran.run.ran.last ∷ [])
-    → IsTrue (server_at_last s pieces).database words.limits (start_past tables warms.starts.image.version warms.starts.image.kept warms.starts.marks)
-    (warms.ran.run.ran.earlier ++ warms.ran.run.ran.last ∷ []) ending
+    → IsHonest tables s pieces (warms.ran.to.run.ran.earlier ++ warms.ran.to.run.ran.last ∷ [])
+    → IsTrue (server_at_last s pieces).database words.limits (past_of_start warms.starts)
+    (warms.ran.to.run.ran.earlier ++ warms.ran.to.run.ran.last ∷ []) ending

@@ -21,6 +21,6 @@ pub fn groups_are_right<H: Host>()
 {}
 
 /// Each step of a run of `warm` is true, where its image is true of the server's tables at one of their versions.
-pub fn warm_runs_are_true()
-    ensures { WarmRunsAreTrue }
+pub fn warm_runs_are_true<H: Host>()
+    ensures { WarmRunsAreTrue H.IsSteady }
 {}

@@ -67,8 +67,8 @@ fn save_files<H: Host>(alloc: Global, words: &ClientWords, host: &mut H) -> Resu
     requires last { words.now.id ≤ 64 }
     requires rows { words.now.limits.rows ≤ 200000 }
     requires regions { words.now.limits.regions ≤ 1024 }
-    ensures whole { OnOk result (IsSaved H H.held H.linking H.writing host.old host.new words.now Whole) }
-    ensures stopped { IfErr result (StopsSaving H H.held H.reading H.linking H.writing host.old host.new words.now) }
+    ensures whole { OnOk result (IsSaved H H.held H.linking H.writing H.IsSteady host.old host.new words.now Whole) }
+    ensures stopped { IfErr result (StopsSaving H H.held H.reading H.linking H.writing H.IsSteady host.old host.new words.now) }
     ensures steady_reads { H.IsSteady host.old → IsErrOf result (Refused Read) → AreNotHeld (H.held host.old) words.now }
     ensures steady_writes { H.IsSteady host.old → ¬ IsErrOf result (Refused Write) }
     ensures counts { CountsStop H H.reading H.writing H.linking host.old host.new result }
@@ -93,8 +93,8 @@ fn save_read<H: Host>(
     requires rows { words.now.limits.rows ≤ 200000 }
     requires regions { words.now.limits.regions ≤ 1024 }
     requires files { AreShortFiles (H.held host.old) words.now files.now }
-    ensures whole { OnOk result (IsSaved H H.held H.linking H.writing host.old host.new words.now Whole) }
-    ensures stopped { IfErr result (StopsSavingFiles H H.held H.linking H.writing host.old host.new words.now) }
+    ensures whole { OnOk result (IsSaved H H.held H.linking H.writing H.IsSteady host.old host.new words.now Whole) }
+    ensures stopped { IfErr result (StopsSavingFiles H H.held H.linking H.writing H.IsSteady host.old host.new words.now) }
     ensures steady_writes { H.IsSteady host.old → ¬ IsErrOf result (Refused Write) }
     ensures stays { OnlyOutput H H.reading H.held H.complaints H.IsSteady host.old host.new }
 {
@@ -128,9 +128,9 @@ fn save_lines<H: Host, P: Plans>(
     requires asks { (ahead : Ahead) × P.follows schema.now plans.old ahead }
     requires few { P.depth plans.old < 2 ^ 40 }
     ensures whole { (ahead : Ahead) → P.follows schema.now plans.old ahead
-        → OnOk result (SavesOf H H.linking H.writing host.old host.new words.now schema.now ahead Whole) }
+        → OnOk result (SavesOf H H.linking H.writing H.IsSteady host.old host.new words.now schema.now ahead Whole) }
     ensures stopped { (ahead : Ahead) → P.follows schema.now plans.old ahead
-        → IfErr result (StopsSavingOf H H.linking H.writing host.old host.new words.now schema.now ahead) }
+        → IfErr result (StopsSavingOf H H.linking H.writing H.IsSteady host.old host.new words.now schema.now ahead) }
     ensures steady_writes { H.IsSteady host.old → ¬ IsErrOf result (Refused Write) }
     ensures stays { OnlyOutput H H.reading H.held H.complaints H.IsSteady host.old host.new }
 {
@@ -177,7 +177,7 @@ fn run_quietly<H: Host, P: Plans>(
     requires asks { (ahead : Ahead) × P.follows schema.now plans.old ahead }
     requires few { P.depth plans.old < 2 ^ 40 }
     ensures ran { (ahead : Ahead) → P.follows schema.now plans.old ahead
-        → IfOk result (λ quiet. LeavesEnd H H.linking H.writing host.old host.new words.now schema.now ahead quiet.ending quiet.end) }
+        → IfOk result (λ quiet. LeavesEnd H H.linking H.writing H.IsSteady host.old host.new words.now schema.now ahead quiet.ending quiet.end) }
     ensures limits { IfOk result (λ quiet. quiet.end.client.store.limits ≡ words.now.limits) }
     ensures broken_off { (ahead : Ahead) → P.follows schema.now plans.old ahead
         → OnErr result (BreaksQuietly H H.linking H.writing host.old host.new words.now schema.now ahead) }

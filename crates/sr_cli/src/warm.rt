@@ -93,8 +93,8 @@ fn warm_files<H: Host>(alloc: Global, words: &WarmWords, host: &mut H) -> Result
     requires first { 1 ≤ words.now.client.id }
     requires last { words.now.client.id ≤ 64 }
     requires regions { words.now.client.limits.regions ≤ 1024 }
-    ensures whole { OnOk result (IsWarmed H H.held H.linking H.writing host.old host.new words.now Whole) }
-    ensures stopped { IfErr result (StopsWarming H H.held H.reading H.linking H.writing host.old host.new words.now) }
+    ensures whole { OnOk result (IsWarmed H H.held H.linking H.writing H.IsSteady host.old host.new words.now Whole) }
+    ensures stopped { IfErr result (StopsWarming H H.held H.reading H.linking H.writing H.IsSteady host.old host.new words.now) }
     ensures steady_reads { H.IsSteady host.old → IsErrOf result (Stopped (Refused Read)) → AreNotWarmHeld (H.held host.old) words.now }
     ensures steady_writes { H.IsSteady host.old → ¬ IsErrOf result (Stopped (Refused Write)) }
     ensures counts { CountsWarm H H.reading H.writing H.linking host.old host.new result }
@@ -123,8 +123,8 @@ fn warm_read<H: Host>(
     requires regions { words.now.client.limits.regions ≤ 1024 }
     requires files { AreShortFiles (H.held host.old) words.now.client read.now.files }
     requires image { IsWhatIsHeld (H.held host.old words.now.image) read.now.image }
-    ensures whole { OnOk result (IsWarmed H H.held H.linking H.writing host.old host.new words.now Whole) }
-    ensures stopped { IfErr result (StopsWarmingFiles H H.held H.linking H.writing host.old host.new words.now) }
+    ensures whole { OnOk result (IsWarmed H H.held H.linking H.writing H.IsSteady host.old host.new words.now Whole) }
+    ensures stopped { IfErr result (StopsWarmingFiles H H.held H.linking H.writing H.IsSteady host.old host.new words.now) }
     ensures steady_writes { H.IsSteady host.old → ¬ IsErrOf result (Stopped (Refused Write)) }
     ensures stays { OnlyOutput H H.reading H.held H.complaints H.IsSteady host.old host.new }
 {
@@ -176,9 +176,9 @@ fn warm_from<H: Host, P: Plans>(
     requires asks { (ahead : Ahead) × P.follows schema.now plans.old ahead }
     requires few { P.depth plans.old < 2 ^ 40 }
     ensures whole { (bytes : List ℕ) (ahead : Ahead) → image_in schema.now bytes ≡ Ok image → P.follows schema.now plans.old ahead
-        → OnOk result (WarmsOf H H.linking H.writing host.old host.new words.now schema.now ahead bytes Whole) }
+        → OnOk result (WarmsOf H H.linking H.writing H.IsSteady host.old host.new words.now schema.now ahead bytes Whole) }
     ensures stopped { (bytes : List ℕ) (ahead : Ahead) → image_in schema.now bytes ≡ Ok image → P.follows schema.now plans.old ahead
-        → IfErr result (StopsWarmingOf H H.linking H.writing host.old host.new words.now schema.now ahead bytes) }
+        → IfErr result (StopsWarmingOf H H.linking H.writing H.IsSteady host.old host.new words.now schema.now ahead bytes) }
     ensures steady_writes { H.IsSteady host.old → ¬ IsErrOf result (Refused Write) }
     ensures stays { OnlyOutput H H.reading H.held H.complaints H.IsSteady host.old host.new }
 {
@@ -202,10 +202,10 @@ fn warm_begun<H: Host, P: Plans>(
     requires few { P.depth plans.old < 2 ^ 40 }
     ensures whole { (bytes : List ℕ) (ahead : Ahead) → BeginsAs words.now schema.now bytes (string_bytes begun.text) begun.end
         → P.follows schema.now plans.old ahead
-        → OnOk result (WarmsOf H H.linking H.writing host.old host.new words.now schema.now ahead bytes Whole) }
+        → OnOk result (WarmsOf H H.linking H.writing H.IsSteady host.old host.new words.now schema.now ahead bytes Whole) }
     ensures stopped { (bytes : List ℕ) (ahead : Ahead) → BeginsAs words.now schema.now bytes (string_bytes begun.text) begun.end
         → P.follows schema.now plans.old ahead
-        → IfErr result (StopsWarmingOf H H.linking H.writing host.old host.new words.now schema.now ahead bytes) }
+        → IfErr result (StopsWarmingOf H H.linking H.writing H.IsSteady host.old host.new words.now schema.now ahead bytes) }
     ensures steady_writes { H.IsSteady host.old → ¬ IsErrOf result (Refused Write) }
     ensures stays { OnlyOutput H H.reading H.held H.complaints H.IsSteady host.old host.new }
 {
@@ -232,10 +232,10 @@ fn warm_on<H: Host, P: Plans>(
     requires fresh { end.old.answer ≡ None }
     ensures whole { (past : Past) (ahead : Ahead) → StandsFor past end.old.client → past.cut ≡ true → past.out ≡ None
         → P.follows schema.now plans.old ahead
-        → OnOk result (RanOn H H.linking H.writing host.old host.new end.old past words.now.address ahead end.new Whole) }
+        → OnOk result (RanOn H H.linking H.writing H.IsSteady host.old host.new end.old past words.now.address ahead end.new Whole) }
     ensures stopped { (past : Past) (ahead : Ahead) → StandsFor past end.old.client → past.cut ≡ true → past.out ≡ None
         → P.follows schema.now plans.old ahead
-        → IfErr result (StopsOn H H.linking H.writing host.old host.new end.old past words.now.address ahead end.new) }
+        → IfErr result (StopsOn H H.linking H.writing H.IsSteady host.old host.new end.old past words.now.address ahead end.new) }
     ensures steady_writes { H.IsSteady host.old → ¬ IsErrOf result (Refused Write) }
     ensures stays { OnlyOutput H H.reading H.held H.complaints H.IsSteady host.old host.new }
 {

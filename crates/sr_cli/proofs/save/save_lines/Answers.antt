@@ -14,33 +14,35 @@ save_quiet-requires-clause-rows g c = subst (λ n. n ≤ 200000) (sym (ap (λ (l
 pub save_quiet-requires-clause-quiet : goal.save_quiet-requires-clause-quiet
 save_quiet-requires-clause-quiet g c =
     let asks = c.requires.asks in
-    never-unwritten c.args.words.now c.args.schema.now asks.0 c.in-Ok.quiet.ending c.in-Ok.quiet.end (g.H.Outside.linking c.args.host.now) (g.H.Outside.linking c.run_quietly.new.host)
+    never-unwritten (g.H.Outside.IsSteady c.args.host.now) c.args.words.now c.args.schema.now asks.0 c.in-Ok.quiet.ending c.in-Ok.quiet.end (g.H.Outside.linking c.args.host.now) (g.H.Outside.linking c.run_quietly.new.host)
     (g.H.Outside.writing c.args.host.now) (g.H.Outside.writing c.run_quietly.new.host) (g.H.Outside.writing c.run_quietly.new.host) (c.in-Ok.ensures.ran asks.0 asks.1)
 
 pub returns-in-Ok-clause-whole : goal.returns-in-Ok-clause-whole
 returns-in-Ok-clause-whole g c = λ ahead follows.
     let words = c.args.words.now in
     let schema = c.args.schema.now in
+    let steady = g.H.Outside.IsSteady c.args.host.now in
     let old = g.H.Outside.linking c.args.host.now in
     let before = g.H.Outside.writing c.args.host.now in
     let mid = g.H.Outside.writing c.run_quietly.new.host in
     let after = g.H.Outside.writing c.save_quiet.new.sink in
     on_ok_weaker c.save_quiet.result
-    (λ ends. subst (λ (l : Linking). Saves words schema ahead Whole old l before after) (sym c.save_quiet.ensures.linking_stays)
-    (saves-of words schema ahead c.in-Ok.quiet.ending c.in-Ok.quiet.end old (g.H.Outside.linking c.run_quietly.new.host) before mid after (c.in-Ok.ensures.ran ahead follows) Whole ends))
+    (λ ends. subst (λ (l : Linking). Saves steady words schema ahead Whole old l before after) (sym c.save_quiet.ensures.linking_stays)
+    (saves-of steady words schema ahead c.in-Ok.quiet.ending c.in-Ok.quiet.end old (g.H.Outside.linking c.run_quietly.new.host) before mid after (c.in-Ok.ensures.ran ahead follows) Whole ends))
     c.save_quiet.ensures.whole
 
 pub returns-in-Ok-clause-stopped : goal.returns-in-Ok-clause-stopped
 returns-in-Ok-clause-stopped g c = λ ahead follows.
     let words = c.args.words.now in
     let schema = c.args.schema.now in
+    let steady = g.H.Outside.IsSteady c.args.host.now in
     let old = g.H.Outside.linking c.args.host.now in
     let before = g.H.Outside.writing c.args.host.now in
     let mid = g.H.Outside.writing c.run_quietly.new.host in
     let after = g.H.Outside.writing c.save_quiet.new.sink in
-    subst (λ (l : Linking). IfErr c.save_quiet.result (SaveStops words schema ahead old l before after)) (sym c.save_quiet.ensures.linking_stays)
-    (IfErr-weaker c.save_quiet.result (StopsQuietly schema c.in-Ok.quiet.end c.in-Ok.quiet.ending mid after) (SaveStops words schema ahead old (g.H.Outside.linking c.run_quietly.new.host) before after)
-    (stops-of words schema ahead c.in-Ok.quiet.ending c.in-Ok.quiet.end old (g.H.Outside.linking c.run_quietly.new.host) before mid after (c.in-Ok.ensures.ran ahead follows))
+    subst (λ (l : Linking). IfErr c.save_quiet.result (SaveStops steady words schema ahead old l before after)) (sym c.save_quiet.ensures.linking_stays)
+    (IfErr-weaker c.save_quiet.result (StopsQuietly schema c.in-Ok.quiet.end c.in-Ok.quiet.ending mid after) (SaveStops steady words schema ahead old (g.H.Outside.linking c.run_quietly.new.host) before after)
+    (stops-of steady words schema ahead c.in-Ok.quiet.ending c.in-Ok.quiet.end old (g.H.Outside.linking c.run_quietly.new.host) before mid after (c.in-Ok.ensures.ran ahead follows))
     c.save_quiet.ensures.stopped)
 
 pub returns-in-Err-clause-stopped : goal.returns-in-Err-clause-stopped

@@ -14,10 +14,11 @@ returns-in-Err-clause-stopped g c =
     let words = c.args.words.now in
     let is = ap (λ k. line_fault k words.id) c.requires.kind in
     let held = g.H.Outside.held c.args.host.now in
+    let steady = g.H.Outside.IsSteady c.args.host.now in
     let l = g.H.Outside.linking c.args.host.now in
     let w = g.H.Outside.writing c.args.host.now in
     rw c.stop_of.ensures
-    (unset-as (Saved held words l l w w) (SavedInPart held words l l w w) (Asked held words (λ tables ahead. SavesOff words tables ahead l l w w)) (g.H.Outside.held c.args.host.now) words files.schema files.script c.in-Err.no (g.H.Outside.linking c.args.host.now) (g.H.Outside.writing c.args.host.now) c.requires.files.are
+    (unset-as (Saved steady held words l l w w) (SavedInPart steady held words l l w w) (Asked held words (λ tables ahead. SavesOff steady words tables ahead l l w w)) (g.H.Outside.held c.args.host.now) words files.schema files.script c.in-Err.no (g.H.Outside.linking c.args.host.now) (g.H.Outside.writing c.args.host.now) c.requires.files.are
     (λ line place e. rw (is, sym c.as_slice.ensures, sym c.as_slice-2.ensures) (c.in-Err.ensures.line line place (ap Err e)))
     (λ line why e. rw (is, sym c.as_slice.ensures, sym c.as_slice-2.ensures) (c.in-Err.ensures.create line why (ap Err e))))
 
@@ -47,14 +48,15 @@ returns-clause-stopped g c =
     let files = c.args.files.now in
     let words = c.args.words.now in
     let held = g.H.Outside.held c.args.host.now in
+    let steady = g.H.Outside.IsSteady c.args.host.now in
     let old = g.H.Outside.linking c.args.host.now in
     let new = g.H.Outside.linking c.save_lines.new.host in
     let before = g.H.Outside.writing c.args.host.now in
     let after = g.H.Outside.writing c.save_lines.new.host in
     let asked = rw (c.as_slice.ensures, c.as_slice-2.ensures) at c.in-Ok.ensures.asked in
     let some = some_ahead words.id files.schema files.script c.in-Ok.set_up.schema c.in-Ok.set_up.lines asked in
-    IfErr-weaker c.save_lines.result (SaveStops words c.in-Ok.set_up.schema some.0 old new before after) (SaveStopsFiles held words old new before after)
-    (asked-stops held words files.schema files.script c.requires.files.are c.in-Ok.set_up.schema some.0 some.1 old new before after)
+    IfErr-weaker c.save_lines.result (SaveStops steady words c.in-Ok.set_up.schema some.0 old new before after) (SaveStopsFiles steady held words old new before after)
+    (asked-stops held words steady files.schema files.script c.requires.files.are c.in-Ok.set_up.schema some.0 some.1 old new before after)
     (c.save_lines.ensures.stopped some.0 (subst (λ (lines : List EventLine). AreAhead c.in-Ok.set_up.schema lines some.0) (sym c.new-lines.ensures) some.2))
 
 pub returns-in-Err-clause-steady_writes : goal.returns-in-Err-clause-steady_writes

@@ -21,6 +21,9 @@ returns-in-Ok-clause-whole g c = λ bytes ahead b follows.
     let words = c.args.words.now in
     let schema = c.args.schema.now in
     let end = c.args.begun.end in
+    let steady = g.H.Outside.IsSteady c.args.host.now in
+    let later = g.H.Outside.IsSteady c.write_bytes.new.sink in
+    let stays = c.write_bytes.ensures.stays.stays_steady in
     let old = g.H.Outside.linking c.args.host.now in
     let new = g.H.Outside.linking c.warm_on.new.host in
     let before = g.H.Outside.writing c.args.host.now in
@@ -28,7 +31,7 @@ returns-in-Ok-clause-whole g c = λ bytes ahead b follows.
     let after = g.H.Outside.writing c.warm_on.new.host in
     let ran = c.warm_on.ensures.whole (past words schema ahead bytes _ end b) ahead (start-stands words schema ahead bytes _ end b) refl refl follows in
     on_ok_weaker c.warm_on.result
-    (λ ran. warms-of words schema ahead bytes _ end b old new before mid after c.warm_on.new.end (rw c.as_bytes.ensures.value at c.in-Ok.ensures.wrote) Whole ran)
+    (λ ran. warms-of words schema ahead bytes _ end b steady later stays old new before mid after c.warm_on.new.end (rw c.as_bytes.ensures.value at c.in-Ok.ensures.wrote) Whole ran)
     (rw c.write_bytes.ensures.linking_stays at ran)
 
 pub returns-in-Ok-clause-stopped : goal.returns-in-Ok-clause-stopped
@@ -36,6 +39,9 @@ returns-in-Ok-clause-stopped g c = λ bytes ahead b follows.
     let words = c.args.words.now in
     let schema = c.args.schema.now in
     let end = c.args.begun.end in
+    let steady = g.H.Outside.IsSteady c.args.host.now in
+    let later = g.H.Outside.IsSteady c.write_bytes.new.sink in
+    let stays = c.write_bytes.ensures.stays.stays_steady in
     let old = g.H.Outside.linking c.args.host.now in
     let new = g.H.Outside.linking c.warm_on.new.host in
     let before = g.H.Outside.writing c.args.host.now in
@@ -44,9 +50,9 @@ returns-in-Ok-clause-stopped g c = λ bytes ahead b follows.
     let text = string_bytes c.args.begun.text in
     let left = c.warm_on.new.end in
     let stopped = c.warm_on.ensures.stopped (past words schema ahead bytes text end b) ahead (start-stands words schema ahead bytes text end b) refl refl follows in
-    IfErr-weaker c.warm_on.result (StopsThere words schema ahead bytes text end b old new before mid after left) (WarmStops words schema ahead bytes old new before after)
-    (warms-stopped words schema ahead bytes text end b old new before mid after left (rw c.as_bytes.ensures.value at c.in-Ok.ensures.wrote))
-    (subst (λ (l : Linking). IfErr c.warm_on.result (StopsThere words schema ahead bytes text end b l new before mid after left)) c.write_bytes.ensures.linking_stays stopped)
+    IfErr-weaker c.warm_on.result (StopsThere words schema ahead bytes text end b steady later stays old new before mid after left) (WarmStops steady words schema ahead bytes old new before after)
+    (warms-stopped words schema ahead bytes text end b steady later stays old new before mid after left (rw c.as_bytes.ensures.value at c.in-Ok.ensures.wrote))
+    (subst (λ (l : Linking). IfErr c.warm_on.result (StopsThere words schema ahead bytes text end b steady later stays l new before mid after left)) c.write_bytes.ensures.linking_stays stopped)
 
 pub returns-in-Err-Refused-clause-stopped : goal.returns-in-Err-Refused-clause-stopped
 returns-in-Err-Refused-clause-stopped g c = λ bytes ahead b follows.

@@ -23,18 +23,18 @@ run_plan-requires-clause-asks g c =
 pub returns-in-Ok-clause-whole : goal.returns-in-Ok-clause-whole
 returns-in-Ok-clause-whole g c = λ past ahead stands down free follows.
     let there = subst (λ (s : List Table). g.P.Plans.follows s c.args.plans.now ahead) (sym c.as_slice.ensures) follows in
-    let ran = rw c.as_str-address.ensures at (c.in-Ok.ensures.ran past ahead stands down free there).to in
+    let ran = rw c.as_str-address.ensures at (c.in-Ok.ensures.ran past ahead stands down free there) in
     on_ok_weaker c.end_by.result
-    (λ is. subst (λ (e : Ending). RanOn _ g.H.Outside.linking g.H.Outside.writing c.args.host.now c.run_plan.new.host c.args.end.now past c.args.words.now.address ahead c.run_plan.new.end e) is ran)
+    (λ is. subst (λ (e : Ending). RanOn _ g.H.Outside.linking g.H.Outside.writing g.H.Outside.IsSteady c.args.host.now c.run_plan.new.host c.args.end.now past c.args.words.now.address ahead c.run_plan.new.end e) is ran)
     c.end_by.ensures.whole
 
 pub returns-in-Ok-clause-stopped : goal.returns-in-Ok-clause-stopped
 returns-in-Ok-clause-stopped g c = λ past ahead stands down free follows.
     let there = subst (λ (s : List Table). g.P.Plans.follows s c.args.plans.now ahead) (sym c.as_slice.ensures) follows in
-    let ran = rw c.as_str-address.ensures at (c.in-Ok.ensures.ran past ahead stands down free there).to in
+    let ran = rw c.as_str-address.ensures at (c.in-Ok.ensures.ran past ahead stands down free there) in
     IfErr-weaker c.end_by.result (λ why. ending_of why ≡ Some c.in-Ok.ending)
-    (StopsOn _ g.H.Outside.linking g.H.Outside.writing c.args.host.now c.run_plan.new.host c.args.end.now past c.args.words.now.address ahead c.run_plan.new.end)
-    (λ why is. stops-ended (RanOn _ g.H.Outside.linking g.H.Outside.writing c.args.host.now c.run_plan.new.host c.args.end.now past c.args.words.now.address ahead c.run_plan.new.end) _ _ _ c.in-Ok.ending why is ran) c.end_by.ensures.stopped
+    (StopsOn _ g.H.Outside.linking g.H.Outside.writing g.H.Outside.IsSteady c.args.host.now c.run_plan.new.host c.args.end.now past c.args.words.now.address ahead c.run_plan.new.end)
+    (λ why is. stops-ended (RanOn _ g.H.Outside.linking g.H.Outside.writing g.H.Outside.IsSteady c.args.host.now c.run_plan.new.host c.args.end.now past c.args.words.now.address ahead c.run_plan.new.end) _ _ _ c.in-Ok.ending why is ran) c.end_by.ensures.stopped
 
 pub returns-in-Err-clause-stopped : goal.returns-in-Err-clause-stopped
 returns-in-Err-clause-stopped g c = λ past ahead stands down free follows.

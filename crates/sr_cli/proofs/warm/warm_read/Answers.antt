@@ -17,10 +17,11 @@ returns-in-Err-clause-stopped g c =
     let is = ap (λ k. line_fault k words.id) c.requires.kind in
     let all = c.args.words.now in
     let held = g.H.Outside.held c.args.host.now in
+    let steady = g.H.Outside.IsSteady c.args.host.now in
     let l = g.H.Outside.linking c.args.host.now in
     let w = g.H.Outside.writing c.args.host.now in
     rw c.stop_of.ensures
-    (unset-as (Warmed held all l l w w) (WarmedInPart held all l l w w) (AskedOver held all (λ tables ahead bytes. WarmsOff words tables ahead bytes l l w w)) (g.H.Outside.held c.args.host.now) words files.schema files.script c.in-Err.no (g.H.Outside.linking c.args.host.now) (g.H.Outside.writing c.args.host.now) c.requires.files.are
+    (unset-as (Warmed steady held all l l w w) (WarmedInPart steady held all l l w w) (AskedOver held all (λ tables ahead bytes. WarmsOff words tables ahead bytes l l w w)) (g.H.Outside.held c.args.host.now) words files.schema files.script c.in-Err.no (g.H.Outside.linking c.args.host.now) (g.H.Outside.writing c.args.host.now) c.requires.files.are
     (λ line place e. rw (is, sym c.as_slice.ensures, sym c.as_slice-2.ensures) (c.in-Err.ensures.line line place (ap Err e)))
     (λ line why e. rw (is, sym c.as_slice.ensures, sym c.as_slice-2.ensures) (c.in-Err.ensures.create line why (ap Err e))))
 
@@ -56,7 +57,7 @@ returns-in-Ok-warm_from-clause-whole g c =
     let asked = rw (c.as_slice.ensures, c.as_slice-2.ensures) at c.in-Ok.ensures.asked in
     let some = some_ahead words.client.id files.schema files.script c.in-Ok.set_up.schema c.in-Ok.set_up.lines asked in
     warm-asked held words files.schema files.script c.args.read.now.image c.requires.files.are c.requires.image c.in-Ok.set_up.schema some.0 some.1
-    (λ t a b. Warms words.client t a b Whole (g.H.Outside.linking c.args.host.now) (g.H.Outside.linking c.warm_from.new.host) (g.H.Outside.writing c.args.host.now) (g.H.Outside.writing c.warm_from.new.host))
+    (λ t a b. Warms (g.H.Outside.IsSteady c.args.host.now) words.client t a b Whole (g.H.Outside.linking c.args.host.now) (g.H.Outside.linking c.warm_from.new.host) (g.H.Outside.writing c.args.host.now) (g.H.Outside.writing c.warm_from.new.host))
     (c.in-Ok-warm_from.ensures.whole c.args.read.now.image some.0 (rw c.as_slice-3.ensures at c.in-Ok-image_over.ensures.is) (subst (λ (lines : List EventLine). AreAhead c.in-Ok.set_up.schema lines some.0) (sym c.new-lines.ensures) some.2))
 
 pub returns-clause-stopped : goal.returns-clause-stopped
@@ -66,7 +67,7 @@ returns-clause-stopped g c =
     let held = g.H.Outside.held c.args.host.now in
     let asked = rw (c.as_slice.ensures, c.as_slice-2.ensures) at c.in-Ok.ensures.asked in
     let some = some_ahead words.client.id files.schema files.script c.in-Ok.set_up.schema c.in-Ok.set_up.lines asked in
-    warm-stops held words files.schema files.script c.args.read.now.image c.requires.files.are c.requires.image c.in-Ok.set_up.schema some.0 some.1
+    warm-stops held words (g.H.Outside.IsSteady c.args.host.now) files.schema files.script c.args.read.now.image c.requires.files.are c.requires.image c.in-Ok.set_up.schema some.0 some.1
     (g.H.Outside.linking c.args.host.now) (g.H.Outside.linking c.warm_from.new.host) (g.H.Outside.writing c.args.host.now) (g.H.Outside.writing c.warm_from.new.host) c.in-Err-warm_from.stop
     (c.in-Err-warm_from.ensures.stopped c.args.read.now.image some.0 (rw c.as_slice-3.ensures at c.in-Ok-image_over.ensures.is) (subst (λ (lines : List EventLine). AreAhead c.in-Ok.set_up.schema lines some.0) (sym c.new-lines.ensures) some.2))
 

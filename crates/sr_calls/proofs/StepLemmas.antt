@@ -42,6 +42,8 @@ use Rattle.sr_client.specs.Steps.{Cuts, Evicts, Queries, Resumes, SaysCut, SaysE
 use Rattle.sr_client.proofs.Results.{if_ok}
 use Rattle.sr_world.specs.declared.lines.Told as world
 use Rattle.sr_world.proofs.ClientLemmas.{IsToldOf, evict-nothing, query-each, resume-each, write-each}
+use Rattle.sr_world.proofs.Sent.{query-asks-few}
+use Rattle.sr_world.specs.Told.{QueryAsksFew}
 use Rattle.sr_dial.specs.Known.{IsFrom, KeepsLink}
 use Rattle.sr_dial.specs.Following.{answer_of}
 use Rattle.sr_dial.specs.declared.parts.Answer.{Answer}
@@ -86,6 +88,13 @@ module _ {E : Type 0} (keeps : Bool) (old new : Client) (meaning : Query) (step 
       let t = tells past m.outcome m.is in
       if_ok (λ d. All IsSendable d.told.sent) r (done_of told answer) is
       (told_sendable told.sent (λ message one. query-each old.schema old.id past step m.outcome sends m.is message (sym t.sent ∙ one)))
+
+-- what a query sends is an ask of few parts
+pub query_few : (old new : Client) (meaning : Query) (step : QueryStep) → Queries old meaning new step → client.Stands old → QuerySendsWell old.schema old.id step → QueryAsksFew step
+query_few old new meaning step does some sends =
+    let past = past_of old some.0 in
+    let m = does.moves past (some.0, some.1, refl) in
+    query-asks-few old.schema old.id past step m.outcome sends m.is
 
 -- ---- a write
 

@@ -24,6 +24,8 @@ use Rattle.sr_client.specs.Stands.{StandsFor, Stays, Truly, out_of, past_of}
 use Rattle.sr_client.specs.Steps.{SaysTook, Takes, is_bad}
 use Rattle.sr_world.specs.declared.lines.Told as world
 use Rattle.sr_world.proofs.ClientLemmas.{IsToldOf, took-each}
+use Rattle.sr_world.proofs.Sent.{took-asks-few}
+use Rattle.sr_world.specs.Told.{TookAsksFew}
 use Rattle.sr_dial.specs.Following.{answer_of}
 use Rattle.sr_dial.specs.declared.parts.Answer.{Answer}
 use Rattle.sr_calls.specs.ClientEnds.{Did, done_of}
@@ -75,6 +77,12 @@ module _ (keeps : Bool) (old new : Client) (message : Message) (step : Took) (to
       let said = tells m.outcome m.is in
       subst (λ (d : Done). All IsSendable d.told.sent) (sym is)
       (told_sendable told.sent (λ one is_one. took-each old.schema old.id step m.outcome sends m.is one (sym said.sent ∙ is_one)))
+
+-- what goes out with a message is an ask of few parts
+pub take_few : (old new : Client) (m : Message) (step : Took) → Takes old m new step → is_bad step ≡ false → client.Stands old → TookSendsWell old.schema old.id step → TookAsksFew step
+take_few old new m step does good some sends =
+    let did = does.moves (past_of old some.0) (some.0, some.1, refl) good in
+    took-asks-few old.schema old.id step did.outcome sends did.is
 
 -- one that was taken need not be refused, whatever the past
 pub fits_message : (old : Client) (m : Message) (step : Took)

@@ -33,7 +33,7 @@ use Rattle.sr_client.specs.declared.steps.WriteStep.TheVariants as writes
 use Rattle.sr_client.specs.declared.steps.Took.{Took}
 use Rattle.sr_client.specs.declared.steps.Took.TheVariants as took
 use Rattle.sr_client.specs.Stands.{StandsOver, Stays, drawn, out_of}
-use Rattle.sr_client.specs.Steps.{Cuts, Evicts, Goes, Queries, Resumes, SaysCut, SaysEvict, SaysQuery, SaysResume, SaysTook, SaysWrite, Takes, Writes}
+use Rattle.sr_client.specs.Steps.{Cuts, Evicts, Goes, Queries, Resumes, SaysCut, SaysEvict, SaysQuery, SaysResume, SaysTook, SaysWrite, Takes, Writes, is_bad}
 use Rattle.sr_wire.specs.Limits.{IsSendable}
 use Rattle.sr_client.specs.Sends.{IsOfFormat, QuerySendsWell, ResumeSendsWell, TookSendsWell, WriteSendsWell}
 use Rattle.sr_server.specs.declared.server.Server.{Server}
@@ -46,9 +46,11 @@ use Rattle.sr_runs.specs.Scripts.{Is, is_cut, is_evict, is_query, is_resume, is_
 use Rattle.sr_world.specs.declared.lines.Told.{Told}
 use Rattle.sr_world.specs.declared.seat.Seat.{Seat}
 use Rattle.sr_world.specs.Seats.{IsSomeSeat, SeatGoes, SeatLeads, SeatStands}
+use Rattle.sr_world.specs.Told.{QueryAsksFew, TookAsksFew}
 use Rattle.sr_world.specs.Worlds.{drawn_by, rank, weight}
 use Rattle.sr_world.proofs.Numbers.{cut-draws, drawn-is, past_drawn, query-draws, rank-is, resume-draws, take-draws, write-draws}
 use Rattle.sr_world.proofs.Over.{grows-none}
+use Rattle.sr_world.proofs.Sent.{query-asks-few, taken-well, took-asks-few}
 use Rattle.sr_world.proofs.SeatLemmas.{client-leads, pair-stands, promises-are-true, seat-leads, seat-stays}
 
 -- An outcome is told by its details and the last line of its kind, and what it sends goes out.
@@ -437,6 +439,14 @@ query-sendable old mid meaning step sent some does tells sends =
     let g = does.by_rules some.1.0.database past h.seat.client in
     told-sendable sent g.outcome (tells past g.outcome g.is) (query-each old.client.schema old.client.id past step g.outcome sends g.is)
 
+-- and it is an ask of few parts
+pub query-few : (old : Seat) (mid : Client) (meaning : Query) (step : QueryStep) → (server : Server) × IsSomeSeat old server → Queries old.client meaning mid step → QuerySendsWell old.client.schema old.client.id step → QueryAsksFew step
+query-few old mid meaning step some does sends =
+    let h = some.1.2 in
+    let past = h.pair.client in
+    let g = does.by_rules some.1.0.database past h.seat.client in
+    query-asks-few old.client.schema old.client.id past step g.outcome sends g.is
+
 pub took-each : (schema : List Table) (n : ℕ) (step : Took) (o : Outcome) → TookSendsWell schema n step → SaysTook step o → (m : Message) → sent_of o ≡ m ∷ [] → IsSendable m
 took-each schema n took.Laid o sends says = rw says none-sent
 took-each schema n (took.Applied version marks) o sends says = rw says none-sent
@@ -456,6 +466,14 @@ took-sendable old m queue new step sent some first does tells sends =
     let h = some.1.2 in
     let g = taken-by-rules some.1.0 some.1.1 old some.0 m queue new step h first does in
     told-sendable sent g.outcome (tells g.outcome g.is) (took-each old.client.schema old.client.id step g.outcome sends g.is)
+
+-- the message was not refused, and what is sent is an ask of few parts
+pub took-few : (old : Seat) (m : Message) (queue : List Message) (new : Client) (step : Took) → (server : Server) × IsSomeSeat old server → old.to_client ≡ m ∷ queue → Takes old.client m new step
+    → TookSendsWell old.client.schema old.client.id step → (is_bad step ≡ false) × TookAsksFew step
+took-few old m queue new step some first does sends =
+    let h = some.1.2 in
+    let g = taken-by-rules some.1.0 some.1.1 old some.0 m queue new step h first does in
+    (taken-well step g.outcome g.is, took-asks-few old.client.schema old.client.id step g.outcome sends g.is)
 
 -- what a write sends; of a text that is too long nothing is
 pub write-each : (schema : List Table) (n : ℕ) (sql : List ℕ) (step : WriteStep) (o : Outcome) → WriteSendsWell schema n step → SaysWrite sql step o → (m : Message) → sent_of o ≡ m ∷ [] → IsSendable m

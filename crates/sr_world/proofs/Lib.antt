@@ -18,6 +18,7 @@ pub mod ReplayLemmas
 mod Requests
 pub mod RunLemmas
 mod SeatLemmas
+pub mod Sent
 mod ServeLemmas
 mod Served
 mod Sessions

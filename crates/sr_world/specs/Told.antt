@@ -1,28 +1,46 @@
 -- What is told of asks and cuts.
-use Rattle.std.specs.Prelude.{ℕ, true, ◌≡◌, List, [], ◌∷◌}
+use Rattle.std.specs.Prelude.{ℕ, Bool, true, false, ◌≡◌, List, [], ◌∷◌, length, nat_le}
 use Rattle.sr_message.specs.declared.message.Message.{Message}
-use Rattle.sr_message.specs.declared.message.Message.TheVariants.{Ask}
+use Rattle.sr_message.specs.declared.message.Message.TheVariants.{Ask, Hello, Resume}
 use Rattle.sr_script.specs.declared.line.FailKind.TheVariants as fail
 use Rattle.sr_script.specs.declared.line.TraceLine.{TraceLine}
 use Rattle.sr_script.specs.declared.line.TraceLine.TheVariants as line
-use Rattle.sr_session.specs.Refusals.{has_few_parts}
 use Rattle.sr_client.specs.declared.steps.Ended.{Ended}
 use Rattle.sr_client.specs.declared.steps.Ended.TheVariants as ended
 use Rattle.sr_client.specs.declared.steps.QueryStep.{QueryStep}
 use Rattle.sr_client.specs.declared.steps.QueryStep.TheVariants as query
+use Rattle.sr_client.specs.declared.steps.ResumeStep.{ResumeStep}
+use Rattle.sr_client.specs.declared.steps.ResumeStep.TheVariants as resume
 use Rattle.sr_client.specs.declared.steps.Took.{Took}
 use Rattle.sr_client.specs.declared.steps.Took.TheVariants as took
 use Rattle.sr_runs.specs.Lines.{ask_lines}
 
--- ---- a message that is sent has at most four parts
+-- ---- what a step sends
 
+-- an ask of at most four parts
+abbrev pub is_few_ask : Message → Bool
+is_few_ask (Ask request fresh parts) = nat_le (length parts) 4
+is_few_ask other = false
+
+-- what is sent, if anything is, is one
 abbrev pub QueryAsksFew : QueryStep → Type 0
-QueryAsksFew (query.Asked number request message marks) = has_few_parts message ≡ true
+QueryAsksFew (query.Asked number request message marks) = is_few_ask message ≡ true
 QueryAsksFew other = Unit {0}
 
 abbrev pub TookAsksFew : Took → Type 0
-TookAsksFew (took.Asked request message marks) = has_few_parts message ≡ true
+TookAsksFew (took.Asked request message marks) = is_few_ask message ≡ true
 TookAsksFew other = Unit {0}
+
+-- a message that opens a session
+abbrev pub opens : Message → Bool
+opens (Hello wire client request) = true
+opens (Resume wire client request version holdings) = true
+opens other = false
+
+-- what is sent, if anything is, is one
+abbrev pub ResumeOpens : ResumeStep → Type 0
+ResumeOpens (resume.Sent request message) = opens message ≡ true
+ResumeOpens other = Unit {0}
 
 -- ---- asks
 

@@ -1,21 +1,21 @@
 //! The lines of what a call answered.
-ghost use Rattle.std.specs.Prelude.{◌≡◌, ◌<◌, ◌^◌, ℕ, true, List, [], ◌∷◌, ◌++◌, length, map, option_to_list, None, Some, Ok, IfOk, OnOk};
+ghost use Rattle.std.specs.Prelude.{◌≡◌, ◌<◌, ◌^◌, ℕ, true, false, List, [], ◌∷◌, ◌++◌, length, map, option_to_list, None, Some, Ok, IfOk, OnOk};
 ghost use Rattle.sr_cell.specs.declared.cause.Cause.TheVariants.{Asked as AskedCause};
 ghost use Rattle.sr_cell.specs.declared.fault.Fault.{Fault as TheFault};
 ghost use Rattle.sr_model.specs.Queries.{Query as TheQuery};
 ghost use Rattle.sr_script.specs.declared.line.TraceLine.{TraceLine as TheLine};
 ghost use Rattle.sr_script.specs.declared.line.TraceLine.TheVariants.{WriteSql, Row as RowLine};
 ghost use Rattle.sr_session.specs.Clients.{Client as Past};
-ghost use Rattle.sr_session.specs.Refusals.{has_few_parts, is_request};
+ghost use Rattle.sr_session.specs.Refusals.{is_request};
 ghost use Rattle.sr_session.specs.Rules.{Outcome, ResumeSent, sent_of};
 ghost use Rattle.sr_client.specs.declared.client.Client.{Client};
 ghost use Rattle.sr_client.specs.declared.steps.WriteStep.TheVariants.{Sql};
 ghost use Rattle.sr_client.specs.Stands.{out_of};
-ghost use Rattle.sr_client.specs.Steps.{SaysCut, SaysEvict, SaysQuery, SaysResume, SaysTook, SaysWrite};
+ghost use Rattle.sr_client.specs.Steps.{SaysCut, SaysEvict, SaysQuery, SaysResume, SaysTook, SaysWrite, is_bad};
 ghost use Rattle.sr_explain.specs.Telling.{explain_lines};
 ghost use Rattle.sr_store.specs.Stores.{drop_of};
 ghost use Rattle.sr_runs.specs.Lines.{answer_lines, cut_line, details, evict_line, mark_line, mark_lines, part_line, query_line, resume_line, served_line, taken_line, write_line};
-ghost use Rattle.sr_world.specs.Told.{QueryAsksFew, TookAsksFew, asked_lines, ended_lines};
+ghost use Rattle.sr_world.specs.Told.{QueryAsksFew, ResumeOpens, TookAsksFew, asked_lines, ended_lines, is_few_ask, opens};
 
 use sr_cell::cause::Cause;
 use sr_cell::cell::Rows;
@@ -72,8 +72,9 @@ pub fn told_of_query(alloc: Global, client: u8, step: QueryStep) -> Result<Told,
     }
 }
 
-/// What is told of it that the client took a message. It takes none of its server's in a way that is not told.
+/// What is told of it that the client took a message, which it did not refuse.
 pub fn told_of_took(alloc: Global, client: u8, took: Took) -> Result<Told, NoMemory>
+    requires taken { is_bad took ≡ false }
     requires few { TookAsksFew took }
     ensures lines { (o : Outcome) → SaysTook took o → IfOk result (λ told. told.lines ≡ details client o ++ taken_line client o) }
     ensures sent { (o : Outcome) → SaysTook took o → IfOk result (λ told. option_to_list told.sent ≡ sent_of o) }
@@ -97,10 +98,7 @@ pub fn told_of_took(alloc: Global, client: u8, took: Took) -> Result<Told, NoMem
             let last = TraceLine::ClientAsked { client, request };
             told_if(lines, last, Some(message))
         }
-        Took::Bad(_) => Ok(Told {
-            lines: Seq::new(alloc),
-            sent: None,
-        }),
+        Took::Bad(_) => unreachable!(),
         Took::Laid => told_with(Seq::new(alloc), TraceLine::ClientLaid { client }, None),
         Took::Applied { version, marks } => {
             let lines = mark_lines(alloc, client, marks);
@@ -171,6 +169,7 @@ pub fn told_of_write(alloc: Global, client: u8, step: WriteStep) -> Result<Told,
 
 /// What is told of the step of a resume of that client.
 pub fn told_of_resume(alloc: Global, client: u8, step: ResumeStep) -> Result<Told, NoMemory>
+    requires opens { ResumeOpens step }
     ensures lines { (past : Past) (o : Outcome) → SaysResume past step o → IfOk result (λ told. told.lines ≡ details client o ++ resume_line client o) }
     ensures sent { (past : Past) (o : Outcome) → SaysResume past step o → IfOk result (λ told. option_to_list told.sent ≡ sent_of o) }
 {
@@ -183,8 +182,9 @@ pub fn told_of_resume(alloc: Global, client: u8, step: ResumeStep) -> Result<Tol
     }
 }
 
-/// The line of a resume that sends this message: none, if that does not open a session.
+/// The line of a resume that sends this message, which opens a session.
 fn opening_line(alloc: Global, client: u8, message: &Message) -> Result<TraceLines, NoMemory>
+    requires opens { opens message.now ≡ true }
     ensures { IfOk result (λ lines. lines ≡ resume_line client (ResumeSent message.now)) }
 {
     match message {
@@ -195,7 +195,7 @@ fn opening_line(alloc: Global, client: u8, message: &Message) -> Result<TraceLin
                 request: *number,
             },
         ),
-        _ => Ok(Seq::new(alloc)),
+        _ => unreachable!(),
     }
 }
 
@@ -450,7 +450,7 @@ fn asking_lines(
     marks: Marks,
     message: &Message,
 ) -> Result<TraceLines, NoMemory>
-    requires few { has_few_parts message.now ≡ true }
+    requires ask { is_few_ask message.now ≡ true }
     ensures { IfOk result (λ lines. lines ≡ mark_lines client marks ++ asked_lines client message.now) }
 {
     let mut lines = mark_lines(alloc, client, marks)?;
@@ -464,24 +464,25 @@ fn push_ask(
     client: u8,
     message: &Message,
 ) -> Result<(), NoMemory>
-    requires few { has_few_parts message.now ≡ true }
+    requires ask { is_few_ask message.now ≡ true }
     ensures { OnOk result (lines.new ≡ lines.old ++ asked_lines client message.now) }
 {
-    if let Message::Ask {
-        number,
-        fresh,
-        parts,
-    } = message
-    {
-        lines.push(TraceLine::Ask {
-            client,
-            request: *number,
-            fresh: *fresh,
-            parts: parts.len() as u8,
-        })?;
-        push_parts(alloc, lines, parts.as_slice())?;
+    match message {
+        Message::Ask {
+            number,
+            fresh,
+            parts,
+        } => {
+            lines.push(TraceLine::Ask {
+                client,
+                request: *number,
+                fresh: *fresh,
+                parts: parts.len() as u8,
+            })?;
+            push_parts(alloc, lines, parts.as_slice())
+        }
+        _ => unreachable!(),
     }
-    Ok(())
 }
 
 fn push_parts(alloc: Global, lines: &mut TraceLines, parts: &[AskPart]) -> Result<(), NoMemory>

@@ -1,6 +1,11 @@
 use Rattle.sr_calls.proofs.HoldLemmas.{given_ready, query_ready}
-use Rattle.sr_calls.proofs.StepLemmas.{query_makes, query_sendable}
+use Rattle.sr_calls.proofs.StepLemmas.{query_few, query_makes, query_sendable}
 use Rattle.sr_calls.proofs.calls.judge.Goals as goal
+
+pub told_of_query-requires : goal.told_of_query-requires
+told_of_query-requires c =
+    let meant = c.requires.meant in
+    record { few = query_few c.args.client.now c.query.new.self meant.0 c.in_ok-step.step (c.in_ok-step.ensures.queries meant.0 meant.1) c.requires.ready.0 c.in_ok-step.ensures.sends }
 
 pub returns-clause-made : goal.returns-clause-made
 returns-clause-made c = λ past meaning stands means.

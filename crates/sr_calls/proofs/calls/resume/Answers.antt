@@ -1,7 +1,11 @@
 use Rattle.std.proofs.Common.{ap}
 use Rattle.sr_calls.proofs.HoldLemmas.{same_ready}
 use Rattle.sr_calls.proofs.StepLemmas.{resume_makes, resume_sendable}
+use Rattle.sr_world.proofs.Sent.{first-opens}
 use Rattle.sr_calls.proofs.calls.resume.Goals as goal
+
+pub told_of_resume-requires : goal.told_of_resume-requires
+told_of_resume-requires c = record { opens = first-opens c.args.client.now c.in_ok-step.step c.in_ok-step.ensures.first }
 
 pub returns-clause-made : goal.returns-clause-made
 returns-clause-made c = λ keeps past stands.

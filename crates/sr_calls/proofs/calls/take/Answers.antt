@@ -1,10 +1,15 @@
 use Rattle.sr_calls.proofs.HoldLemmas.{given_ready, took_ready}
-use Rattle.sr_calls.proofs.TakeLemmas.{fits_message, good_took, refuses_message, take_makes, take_sendable}
+use Rattle.sr_calls.proofs.TakeLemmas.{fits_message, good_took, refuses_message, take_few, take_makes, take_sendable}
 use Rattle.sr_calls.proofs.calls.take.Goals as goal
 
 pub returns-in-Bad-clause-taken : goal.returns-in-Bad-clause-taken
 returns-in-Bad-clause-taken c = λ past stands says lent.
     refuses_message c.args.client.now c.args.message c.in-Bad.why (λ meaning. (c.in_ok-took.ensures.bad c.in-Bad.why meaning).0 c.in-Bad.is) past stands
+
+pub told_of_took-requires : goal.told_of_took-requires
+told_of_took-requires c =
+    let good = good_took c.in_ok-took.took c.in_default.not-Bad in
+    record { taken = good; few = take_few c.args.client.now c.take.new.self c.args.message c.in_ok-took.took c.in_ok-took.ensures.takes good c.requires.ready.0 c.in_ok-took.ensures.sends }
 
 pub returns-in_ok-done-in_default-clause-taken : goal.returns-in_ok-done-in_default-clause-taken
 returns-in_ok-done-in_default-clause-taken c = λ past stands says lent.

@@ -6,7 +6,7 @@ use Rattle.sr_script.specs.declared.line.TraceLine.TheVariants as line
 use Rattle.sr_lines.specs.Events.{DoToClient}
 use Rattle.sr_runs.specs.Runs.{Acts}
 use Rattle.sr_world.specs.Seats.{SeatGoes}
-use Rattle.sr_world.proofs.ClientLemmas.{receive-goes, receive-idles, receive-lightens, took-sendable}
+use Rattle.sr_world.proofs.ClientLemmas.{receive-goes, receive-idles, receive-lightens, took-few, took-sendable}
 use Rattle.sr_feed.proofs.Frames.{first}
 use Rattle.sr_world.proofs.seat.Seat.receive.Goals as goal
 
@@ -39,6 +39,12 @@ returns-clause-rank c =
     on_ok_weaker c.send.result (λ made. (receive-lightens old (record old { client = c.take.new.self; to_client = c.pop.new.self }) c.send.new.self c.in-Some.message c.pop.new.self c.in_ok-took.took c.in_ok-told.told
     c.requires.stands (first c.in_ok-oldest.oldest c.in-Some.message c.args.self.now.to_client c.pop.new.self c.in-Some.is c.in_ok-oldest.ensures.taken) c.in_ok-took.ensures.takes refl
     (λ o says. record { lines = c.in_ok-told.ensures.lines o says; sent = c.in_ok-told.ensures.sent o says }) made).rank) c.send.ensures.sent
+
+pub told_of_took-requires : goal.told_of_took-requires
+told_of_took-requires c =
+    let well = took-few c.args.self.now c.in-Some.message c.pop.new.self c.take.new.self c.in_ok-took.took c.requires.stands
+    (first c.in_ok-oldest.oldest c.in-Some.message c.args.self.now.to_client c.pop.new.self c.in-Some.is c.in_ok-oldest.ensures.taken) c.in_ok-took.ensures.takes c.in_ok-took.ensures.sends in
+    record { taken = well.0; few = well.1 }
 
 pub send-requires : goal.send-requires
 send-requires c = record {

@@ -3,6 +3,7 @@ use Rattle.std.proofs.lemmas.Result.{on_ok_weaker}
 use Rattle.sr_world.specs.declared.seat.Seat.{Seat}
 use Rattle.sr_world.specs.Worlds.{drawn_by}
 use Rattle.sr_world.proofs.ClientLemmas.{resume-goes, resume-numbers, resume-sendable}
+use Rattle.sr_world.proofs.Sent.{first-opens}
 use Rattle.sr_world.proofs.seat.Seat.resume.Goals as goal
 
 pub returns-clause-goes : goal.returns-clause-goes
@@ -18,6 +19,9 @@ returns-clause-draws c =
     let old = c.args.self.now in
     let few = resume-numbers old c.resume.new.self c.in_ok-step.step c.requires.stands c.in_ok-step.ensures.resumes in
     on_ok_weaker c.send.result (λ made. subst (λ (x : Seat). drawn_by x ≤ drawn_by old + 2) (sym made) few) c.send.ensures.sent
+
+pub told_of_resume-requires : goal.told_of_resume-requires
+told_of_resume-requires c = record { opens = first-opens c.args.self.now.client c.in_ok-step.step c.in_ok-step.ensures.first }
 
 pub send-requires : goal.send-requires
 send-requires c = record {

@@ -73,13 +73,16 @@ done_of told answer = record { told = record { lines = told.lines; sent = option
 -- from this past, with these lines, what was sent, and the answer that its end lends then
 abbrev pub Did : Bool → Client → Client → session.Client → Deed → Done → Type 0
 Did keeps old new past deed done = (says : Bool) (lent : Option Answer)
-    → Makes Stands lent_by IsEnd HasTold (setting_of (end_with keeps says old lent)) (end_with keeps says old lent) (end_with keeps says new done.answer) past deed done.told.lines done.told.sent
+    → Makes Stands lent_by IsEnd HasTold (setting_of (end_with keeps says old lent)) (end_with keeps says old lent)
+    (end_with keeps says new done.answer) past deed done.told.lines done.told.sent
 
 -- the same of a message that it took, or refused
 abbrev pub DidTake : Bool → Client → Client → session.Client → Message → Taken → Type 0
 DidTake keeps old new past message taken = (says : Bool) (lent : Option Answer)
-    → TakesAs taken.came Stands lent_by IsEnd HasTold (setting_of (end_with keeps says old lent)) (end_with keeps says old lent) (end_with keeps says new taken.answer) past message
+    → TakesAs taken.came Stands lent_by IsEnd HasTold (setting_of (end_with keeps says old lent)) (end_with keeps says old lent)
+    (end_with keeps says new taken.answer) past message
 
 -- the lines that it explains a query of this text by
 abbrev pub DidExplain : Client → session.Client → Result model.Query Fault → List TraceLine → Type 0
-DidExplain c past text lines = (keeps says : Bool) (lent : Option Answer) → Tells IsEnd (setting_of (end_with keeps says c lent)) (end_with keeps says c lent) past text lines
+DidExplain c past text lines =
+    (keeps says : Bool) (lent : Option Answer) → Tells IsEnd (setting_of (end_with keeps says c lent)) (end_with keeps says c lent) past text lines

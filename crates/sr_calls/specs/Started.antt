@@ -36,7 +36,9 @@ pub record IsStarted (id version : ℕ) (schema : List Table) (limits : Limits) 
 -- Over an honest link all that is true of a run of a new client is true of one that starts from parts, where these are true of the server's
 -- database before the first frame: answers are right at the versions that they name, and nothing that comes is refused.
 abbrev pub StartedRunsAreTrue : Type 0
-StartedRunsAreTrue = (id version : ℕ) (address : List ℕ) (schema : List Table) (limits : Limits) (keeps says : Bool) (kept : List Kept) (marks : List Mark) (c : Client) (left : End)
+StartedRunsAreTrue =
+    (id version : ℕ) (address : List ℕ) (schema : List Table) (limits : Limits) (keeps says : Bool) (kept : List Kept) (marks : List Mark)
+    (c : Client) (left : End)
     (s : Server) (pieces : List (List Input)) (plan : Plan Task Answer) (ended : Ending) (old new : Linking) (before after : Writing)
     → IsStarted id version schema limits kept marks c → AreTrueAt s.database version kept → AllTasks IsAskedFor plan
     → (run : RanFrom (end_with keeps says c None) (start_past schema version kept marks) address plan ended old new before after left)

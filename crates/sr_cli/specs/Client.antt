@@ -51,7 +51,8 @@ pub record Ends (Steady : Type 0) (schema script : List ℕ) (words : ClientWord
   pub ran : RanNewSteadily Steady words.id words.address tables words.limits (keeps_of words.kind) true (Next 0 (Do Resumed) ahead) ending old new before after
 
 -- the same, of files that were read
-pub record Dialled (Steady : Type 0) (held : List ℕ → Option (List ℕ)) (words : ClientWords) (ending : Ending) (old new : Linking) (before after : Writing) : Type 0 where
+pub record Dialled (Steady : Type 0) (held : List ℕ → Option (List ℕ)) (words : ClientWords) (ending : Ending) (old new : Linking)
+    (before after : Writing) : Type 0 where
   pub schema : List ℕ
   pub script : List ℕ
   pub files : AreFiles held words schema script
@@ -109,20 +110,23 @@ pub record NamedCreate (held : List ℕ → Option (List ℕ)) (words : ClientWo
   pub said : new ≡ complained (setup_text line fault) old
 
 -- what came is no frame, which was said on the error output, with what stands against it
-pub record NamedSpoiled (Steady : Type 0) (held : List ℕ → Option (List ℕ)) (words : ClientWords) (l m : Linking) (before after : Writing) (old new : Option (List ℕ)) : Type 0 where
+pub record NamedSpoiled (Steady : Type 0) (held : List ℕ → Option (List ℕ)) (words : ClientWords) (l m : Linking) (before after : Writing)
+    (old new : Option (List ℕ)) : Type 0 where
   pub fault : WireFault
   pub dialled : Dialled Steady held words (Spoiled fault) l m before after
   pub said : new ≡ complained (spoiled_text fault) old
 
 -- a message that came must be refused, which was said on the error output, with why
-pub record NamedBad (Steady : Type 0) (held : List ℕ → Option (List ℕ)) (words : ClientWords) (l m : Linking) (before after : Writing) (old new : Option (List ℕ)) : Type 0 where
+pub record NamedBad (Steady : Type 0) (held : List ℕ → Option (List ℕ)) (words : ClientWords) (l m : Linking) (before after : Writing)
+    (old new : Option (List ℕ)) : Type 0 where
   pub why : BadFrame
   pub dialled : Dialled Steady held words (BadMessage why) l m before after
   pub said : new ≡ complained (bad_text why) old
 
 -- one or the other
 abbrev pub NamedFrame : Type 0 → (List ℕ → Option (List ℕ)) → ClientWords → Linking → Linking → Writing → Writing → Option (List ℕ) → Option (List ℕ) → Type 0
-NamedFrame Steady held words l m before after old new = NamedSpoiled Steady held words l m before after old new ⊎ NamedBad Steady held words l m before after old new
+NamedFrame Steady held words l m before after old new =
+    NamedSpoiled Steady held words l m before after old new ⊎ NamedBad Steady held words l m before after old new
 
 -- the statuses that it may end with
 abbrev pub IsEnd : ℕ → Type 0
@@ -162,14 +166,16 @@ pub record FitsFiles (line_fault : List ℕ → Option ℕ) (schema script : Lis
 -- ---- a run
 
 -- What `client` does over a host, by the status that it ends with.
-pub record Dials (H : Type 0) (held : H → List ℕ → Option (List ℕ)) (reading : H → Reading) (writing : H → Writing) (linking : H → Linking) (complaints : H → Option (List ℕ)) (IsSteady : H → Type 0) (old new : H) (words : ClientWords) (status : ℕ) : Type 0 where
+pub record Dials (H : Type 0) (held : H → List ℕ → Option (List ℕ)) (reading : H → Reading) (writing : H → Writing) (linking : H → Linking)
+    (complaints : H → Option (List ℕ)) (IsSteady : H → Type 0) (old new : H) (words : ClientWords) (status : ℕ) : Type 0 where
   pub only : IsEnd status
   pub whole : status ≡ 0 → Dialled (IsSteady old) (held old) words Whole (linking old) (linking new) (writing old) (writing new)
   pub unwritten : status ≡ 4 → Dialled (IsSteady old) (held old) words Unwritten (linking old) (linking new) (writing old) (writing new)
   pub faulty : status ≡ 5 → Dialled (IsSteady old) (held old) words Faulty (linking old) (linking new) (writing old) (writing new)
   pub frame : status ≡ 8 → NamedFrame (IsSteady old) (held old) words (linking old) (linking new) (writing old) (writing new) (complaints old) (complaints new)
   pub limit : status ≡ 11 → Dialled (IsSteady old) (held old) words TooMany (linking old) (linking new) (writing old) (writing new)
-  pub in_want : status ≡ 9 → Untouched (linking old) (linking new) (writing old) (writing new) ⊎ DialledInPart (held old) words (linking old) (linking new) (writing old) (writing new)
+  pub in_want : status ≡ 9 → Untouched (linking old) (linking new) (writing old) (writing new)
+      ⊎ DialledInPart (held old) words (linking old) (linking new) (writing old) (writing new)
   pub too_long : status ≡ 10 → SomeTooLong (held old) (reading new).left (files_of words)
   pub line : status ≡ 6 → NamedLine (held old) words (complaints old) (complaints new)
   pub refused : status ≡ 7 → NamedCreate (held old) words (complaints old) (complaints new)
@@ -203,8 +209,10 @@ abbrev pub Refuses : Type 0 → List ℕ → List ℕ → ClientWords → Linkin
 Refuses Steady schema script words old new before after refusal.Write = Ends Steady schema script words Unwritten old new before after
 Refuses Steady schema script words old new before after refusal.Link = Ends Steady schema script words Faulty old new before after
 Refuses Steady schema script words old new before after refusal.Memory = Untouched old new before after ⊎ EndsInPart schema script words old new before after
-Refuses Steady schema script words old new before after (refusal.Line line place) = (script_outside (fault_by words) schema script ≡ Some (record { line = line; place = place })) × Untouched old new before after
-Refuses Steady schema script words old new before after (refusal.Setup line fault) = RefusesCreate (fault_by words) schema script line fault × Untouched old new before after
+Refuses Steady schema script words old new before after (refusal.Line line place) =
+    (script_outside (fault_by words) schema script ≡ Some (record { line = line; place = place })) × Untouched old new before after
+Refuses Steady schema script words old new before after (refusal.Setup line fault) =
+    RefusesCreate (fault_by words) schema script line fault × Untouched old new before after
 Refuses Steady schema script words old new before after other = ⊥
 
 -- why it stops
@@ -216,15 +224,18 @@ Stops Steady schema script words old new before after stop.Limit = Ends Steady s
 
 -- how a run over a host ended, and why it stops, of the files that were read
 abbrev pub EndsOver : (H : Type 0) → (H → Linking) → (H → Writing) → (H → Type 0) → H → H → Files → ClientWords → Ending → Type 0
-EndsOver H linking writing IsSteady old new files words ending = Ends (IsSteady old) files.schema files.script words ending (linking old) (linking new) (writing old) (writing new)
+EndsOver H linking writing IsSteady old new files words ending =
+    Ends (IsSteady old) files.schema files.script words ending (linking old) (linking new) (writing old) (writing new)
 
 abbrev pub StopsBy : (H : Type 0) → (H → Linking) → (H → Writing) → (H → Type 0) → H → H → Files → ClientWords → Stop → Type 0
-StopsBy H linking writing IsSteady old new files words why = Stops (IsSteady old) files.schema files.script words (linking old) (linking new) (writing old) (writing new) why
+StopsBy H linking writing IsSteady old new files words why =
+    Stops (IsSteady old) files.schema files.script words (linking old) (linking new) (writing old) (writing new) why
 
 -- what a new client of these words did over a host that a plan is ahead of
 abbrev pub RunsAs : (H : Type 0) → (H → Linking) → (H → Writing) → (H → Type 0) → H → H → ClientWords → Bool → List Table → Ahead → Ending → Type 0
 RunsAs H linking writing IsSteady old new words keeps tables ahead ending =
-    RanNewSteadily (IsSteady old) words.id words.address tables words.limits keeps true (Next 0 (Do Resumed) ahead) ending (linking old) (linking new) (writing old) (writing new)
+    RanNewSteadily (IsSteady old) words.id words.address tables words.limits keeps true (Next 0 (Do Resumed) ahead) ending (linking old) (linking new)
+    (writing old) (writing new)
 
 -- out of memory: nothing was done, or the same was broken off
 abbrev pub BreaksOff : (H : Type 0) → (H → Linking) → (H → Writing) → H → H → ClientWords → Bool → List Table → Ahead → Type 0
@@ -238,7 +249,8 @@ StopsOver Steady held words left old new before after (stop.Refused refusal.Read
 StopsOver Steady held words left old new before after (stop.Refused refusal.TooLong) = SomeTooLong held left (files_of words)
 StopsOver Steady held words left old new before after (stop.Refused refusal.Write) = Dialled Steady held words Unwritten old new before after
 StopsOver Steady held words left old new before after (stop.Refused refusal.Link) = Dialled Steady held words Faulty old new before after
-StopsOver Steady held words left old new before after (stop.Refused refusal.Memory) = Untouched old new before after ⊎ DialledInPart held words old new before after
+StopsOver Steady held words left old new before after (stop.Refused refusal.Memory) =
+    Untouched old new before after ⊎ DialledInPart held words old new before after
 StopsOver Steady held words left old new before after (stop.Refused (refusal.Line line place)) = IsOutside held words line place
 StopsOver Steady held words left old new before after (stop.Refused (refusal.Setup line fault)) = IsRefusedCreate held words line fault
 StopsOver Steady held words left old new before after (stop.Refused other) = ⊥

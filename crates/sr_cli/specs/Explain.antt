@@ -81,7 +81,8 @@ pub record FitsScript (options : Options) (script sql : List ℕ) (status : ℕ)
 -- ---- a run
 
 -- What `explain` does over a host, by the status that it ends with.
-pub record Explains (H : Type 0) (held : H → List ℕ → Option (List ℕ)) (reading : H → Reading) (writing : H → Writing) (linking : H → Linking) (complaints : H → Option (List ℕ)) (IsSteady : H → Type 0) (old new : H) (words : ExplainWords) (status : ℕ) : Type 0 where
+pub record Explains (H : Type 0) (held : H → List ℕ → Option (List ℕ)) (reading : H → Reading) (writing : H → Writing) (linking : H → Linking)
+    (complaints : H → Option (List ℕ)) (IsSteady : H → Type 0) (old new : H) (words : ExplainWords) (status : ℕ) : Type 0 where
   pub only : (status ≡ 0) ⊎ (status ≡ 3) ⊎ (status ≡ 4) ⊎ (status ≡ 6) ⊎ (status ≡ 7) ⊎ (status ≡ 9) ⊎ (status ≡ 10)
   pub explained : status ≡ 0 → Explained (held old) words (writing old).written (writing new).written
   pub part_after_fault : status ≡ 4 → ExplainedInPart (held old) words (writing old).written (writing new).written
@@ -100,7 +101,8 @@ abbrev pub Refuses : ExplainWords → List ℕ → Writing → Writing → Refus
 Refuses words script before after refusal.Write = WroteSome words script before.written after.written
 Refuses words script before after refusal.Memory = (after ≡ before) ⊎ WroteSome words script before.written after.written
 Refuses words script before after (refusal.Line line place) = outside words.setup.clients script ≡ Some (record { line = line; place = place })
-Refuses words script before after (refusal.Setup line fault) = (outside words.setup.clients script ≡ None) × FirstRefused words.setup.clients 1 [] (lines_of script) line fault
+Refuses words script before after (refusal.Setup line fault) =
+    (outside words.setup.clients script ≡ None) × FirstRefused words.setup.clients 1 [] (lines_of script) line fault
 Refuses words script before after other = ⊥
 
 -- why it is not, by the script that the words name

@@ -29,13 +29,15 @@ pub record SummarizedInPart (script : List ℕ) (old new : Option (List ℕ)) : 
   pub written : WritesPrefix old new text
 
 -- What `generate` does over a host, by the status that it ends with.
-pub record Generates (H : Type 0) (reading : H → Reading) (writing : H → Writing) (linking : H → Linking) (IsSteady : H → Type 0) (old new : H) (words : GenerateWords) (status : ℕ) : Type 0 where
+pub record Generates (H : Type 0) (reading : H → Reading) (writing : H → Writing) (linking : H → Linking) (IsSteady : H → Type 0) (old new : H)
+    (words : GenerateWords) (status : ℕ) : Type 0 where
   pub only : (status ≡ 0) ⊎ (status ≡ 4) ⊎ (status ≡ 9)
   pub made : words.whole_script ≡ true → status ≡ 0 → Appends (writing old).written (writing new).written (script_of words)
   pub made_in_part : words.whole_script ≡ true → WritesPrefix (writing old).written (writing new).written (script_of words)
   pub summary : words.whole_script ≡ false → status ≡ 0 → Summarized (script_of words) (writing old).written (writing new).written
   pub summary_in_part : words.whole_script ≡ false → status ≡ 4 → SummarizedInPart (script_of words) (writing old).written (writing new).written
-  pub summary_in_want : words.whole_script ≡ false → status ≡ 9 → (writing new ≡ writing old) ⊎ SummarizedInPart (script_of words) (writing old).written (writing new).written
+  pub summary_in_want : words.whole_script ≡ false → status ≡ 9 → (writing new ≡ writing old)
+      ⊎ SummarizedInPart (script_of words) (writing old).written (writing new).written
   pub writing_keeps_faults : (status ≡ 4) ⊎ ((writing new).faults ≡ (writing old).faults)
   pub steady : IsSteady old → ¬ (status ≡ 4)
   pub reading_stays : reading new ≡ reading old

@@ -179,7 +179,8 @@ pub record Warms (Steady : Type 0) (words : ClientWords) (tables : List Table) (
       ending old new middle after left
 
 -- Or only this is written of these lines, and the client did not run.
-pub record WarmsOnly (Writes : List ℕ → Writing → Writing → Type 0) (words : ClientWords) (tables : List Table) (ahead : Ahead) (bytes : List ℕ) (old new : Linking) (before after : Writing) : Type 0 where
+pub record WarmsOnly (Writes : List ℕ → Writing → Writing → Type 0) (words : ClientWords) (tables : List Table) (ahead : Ahead) (bytes : List ℕ)
+    (old new : Linking) (before after : Writing) : Type 0 where
   pub starts : Starts words tables bytes
   pub said : Writes (text_of_start starts) before after
   pub linking : new ≡ old
@@ -198,7 +199,8 @@ WarmsUnwritten Steady words tables ahead bytes old new before after =
 
 -- what was done out of memory
 abbrev pub WarmsOff : ClientWords → List Table → Ahead → List ℕ → Linking → Linking → Writing → Writing → Type 0
-WarmsOff words tables ahead bytes old new before after = WarmsInPart words tables ahead bytes old new before after ⊎ WarmsOnly WritesOff words tables ahead bytes old new before after
+WarmsOff words tables ahead bytes old new before after =
+    WarmsInPart words tables ahead bytes old new before after ⊎ WarmsOnly WritesOff words tables ahead bytes old new before after
 
 -- ---- how a run comes to its end
 
@@ -206,10 +208,12 @@ WarmsOff words tables ahead bytes old new before after = WarmsInPart words table
 pub record NamedEnd (Ended : Ending → Type 0) (old new : Option (List ℕ)) : Type 0 where
   pub ending : Ending
   pub ended : Ended ending
-  pub said : ((fault : WireFault) × (ending ≡ Spoiled fault) × (new ≡ complained (spoiled_text fault) old)) ⊎ ((why : BadFrame) × (ending ≡ BadMessage why) × (new ≡ complained (bad_text why) old))
+  pub said : ((fault : WireFault) × (ending ≡ Spoiled fault) × (new ≡ complained (spoiled_text fault) old))
+      ⊎ ((why : BadFrame) × (ending ≡ BadMessage why) × (new ≡ complained (bad_text why) old))
 
 -- The status, by how a run ended, and by what else it came to: something was not written, memory was refused, or a file is too long.
-pub record ComesTo (held : List ℕ → Option (List ℕ)) (words : ClientWords) (Ended : Ending → Type 0) (Part Off Long : Type 0) (old new : Option (List ℕ)) (status : ℕ) : Type 0 where
+pub record ComesTo (held : List ℕ → Option (List ℕ)) (words : ClientWords) (Ended : Ending → Type 0) (Part Off Long : Type 0)
+    (old new : Option (List ℕ)) (status : ℕ) : Type 0 where
   pub whole : status ≡ 0 → Ended Whole
   pub unwritten : status ≡ 4 → Part
   pub faulty : status ≡ 5 → Ended Faulty
@@ -267,7 +271,8 @@ abbrev pub IsNoImage : (List ℕ → Option (List ℕ)) → WarmWords → ImageF
 IsNoImage held words fault = AskedOver held words (λ tables ahead bytes. image_in tables bytes ≡ Err fault)
 
 -- The bytes are no image over the tables of the files, which was said on the error output, with why. Nothing was done.
-pub record NamedImage (held : List ℕ → Option (List ℕ)) (words : WarmWords) (old new : Linking) (before after : Writing) (first last : Option (List ℕ)) : Type 0 where
+pub record NamedImage (held : List ℕ → Option (List ℕ)) (words : WarmWords) (old new : Linking) (before after : Writing)
+    (first last : Option (List ℕ)) : Type 0 where
   pub fault : ImageFault
   pub none : IsNoImage held words fault
   pub untouched : Untouched old new before after
@@ -298,17 +303,22 @@ pub record FitsImage (id : ℕ) (schema script bytes : List ℕ) (status : ℕ) 
 -- ---- a run
 
 -- What `save` does over a host, by the status that it ends with.
-pub record SavesOver (H : Type 0) (held : H → List ℕ → Option (List ℕ)) (reading : H → Reading) (writing : H → Writing) (linking : H → Linking) (complaints : H → Option (List ℕ)) (IsSteady : H → Type 0) (old new : H) (words : ClientWords) (status : ℕ) : Type 0 where
+pub record SavesOver (H : Type 0) (held : H → List ℕ → Option (List ℕ)) (reading : H → Reading) (writing : H → Writing) (linking : H → Linking)
+    (complaints : H → Option (List ℕ)) (IsSteady : H → Type 0) (old new : H) (words : ClientWords) (status : ℕ) : Type 0 where
   pub only : IsEnd status
-  pub comes : SavesBy (IsSteady old) (held old) words (reading new) (linking old) (linking new) (writing old) (writing new) (complaints old) (complaints new) status
+  pub comes : SavesBy (IsSteady old) (held old) words (reading new) (linking old) (linking new) (writing old) (writing new) (complaints old)
+      (complaints new) status
   pub steady : IsSteady old → (schema script : List ℕ) → AreHeld (held old) words schema script → FitsFiles (fault_by words) schema script status
   pub steady_writes : IsSteady old → ¬ (status ≡ 4)
 
 -- What `warm` does over a host, by the status that it ends with.
-pub record WarmsOver (H : Type 0) (held : H → List ℕ → Option (List ℕ)) (reading : H → Reading) (writing : H → Writing) (linking : H → Linking) (complaints : H → Option (List ℕ)) (IsSteady : H → Type 0) (old new : H) (words : WarmWords) (status : ℕ) : Type 0 where
+pub record WarmsOver (H : Type 0) (held : H → List ℕ → Option (List ℕ)) (reading : H → Reading) (writing : H → Writing) (linking : H → Linking)
+    (complaints : H → Option (List ℕ)) (IsSteady : H → Type 0) (old new : H) (words : WarmWords) (status : ℕ) : Type 0 where
   pub only : IsEnd status ⊎ (status ≡ 13)
-  pub comes : WarmsBy (IsSteady old) (held old) words (reading new) (linking old) (linking new) (writing old) (writing new) (complaints old) (complaints new) status
-  pub steady : IsSteady old → (schema script bytes : List ℕ) → AreWarmHeld (held old) words schema script bytes → FitsImage words.client.id schema script bytes status
+  pub comes : WarmsBy (IsSteady old) (held old) words (reading new) (linking old) (linking new) (writing old) (writing new) (complaints old)
+      (complaints new) status
+  pub steady : IsSteady old → (schema script bytes : List ℕ) → AreWarmHeld (held old) words schema script bytes
+      → FitsImage words.client.id schema script bytes status
   pub steady_writes : IsSteady old → ¬ (status ≡ 4)
   pub no_image : status ≡ 13 → NamedImage (held old) words (linking old) (linking new) (writing old) (writing new) (complaints old) (complaints new)
 
@@ -446,7 +456,8 @@ abbrev pub StopsSavingFiles : (H : Type 0) → (H → List ℕ → Option (List 
 StopsSavingFiles H held linking writing IsSteady old new words why =
     SaveStopsFiles (IsSteady old) (held old) words (linking old) (linking new) (writing old) (writing new) why
 
-abbrev pub StopsSaving : (H : Type 0) → (H → List ℕ → Option (List ℕ)) → (H → Reading) → (H → Linking) → (H → Writing) → (H → Type 0) → H → H → ClientWords → Stop → Type 0
+abbrev pub StopsSaving : (H : Type 0) → (H → List ℕ → Option (List ℕ)) → (H → Reading) → (H → Linking) → (H → Writing) → (H → Type 0) → H → H
+    → ClientWords → Stop → Type 0
 StopsSaving H held reading linking writing IsSteady old new words why =
     SaveStopsOver (IsSteady old) (held old) words (reading new).left (linking old) (linking new) (writing old) (writing new) why
 
@@ -473,10 +484,12 @@ abbrev pub IsWarmed : (H : Type 0) → (H → List ℕ → Option (List ℕ)) �
 IsWarmed H held linking writing IsSteady old new words ending =
     Warmed (IsSteady old) (held old) words (linking old) (linking new) (writing old) (writing new) ending
 
-abbrev pub StopsWarmingFiles : (H : Type 0) → (H → List ℕ → Option (List ℕ)) → (H → Linking) → (H → Writing) → (H → Type 0) → H → H → WarmWords → WarmStop → Type 0
+abbrev pub StopsWarmingFiles : (H : Type 0) → (H → List ℕ → Option (List ℕ)) → (H → Linking) → (H → Writing) → (H → Type 0) → H → H → WarmWords
+    → WarmStop → Type 0
 StopsWarmingFiles H held linking writing IsSteady old new words why =
     WarmStopsFiles (IsSteady old) (held old) words (linking old) (linking new) (writing old) (writing new) why
 
-abbrev pub StopsWarming : (H : Type 0) → (H → List ℕ → Option (List ℕ)) → (H → Reading) → (H → Linking) → (H → Writing) → (H → Type 0) → H → H → WarmWords → WarmStop → Type 0
+abbrev pub StopsWarming : (H : Type 0) → (H → List ℕ → Option (List ℕ)) → (H → Reading) → (H → Linking) → (H → Writing) → (H → Type 0) → H → H
+    → WarmWords → WarmStop → Type 0
 StopsWarming H held reading linking writing IsSteady old new words why =
     WarmStopsOver (IsSteady old) (held old) words (reading new).left (linking old) (linking new) (writing old) (writing new) why

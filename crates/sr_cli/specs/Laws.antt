@@ -28,7 +28,8 @@ calls_of {Steady} {schema} {script} {words} {ending} {old} {new} {before} {after
 -- Of each kind each step of it is true: an answer has the rows of its query on the server's tables at the version that it names.
 abbrev pub RunsAreTrue : {H : Type 0} → (H → Type 0) → Type 0
 RunsAreTrue {H} IsSteady = (host : H) (schema script : List ℕ) (words : ClientWords) (ending : Ending) (old new : Linking) (before after : Writing)
-    (s : Server) (pieces : List (List Input)) → (ends : Ends (IsSteady host) schema script words ending old new before after) → IsHonest ends.tables s pieces (calls_of ends)
+    (s : Server) (pieces : List (List Input)) → (ends : Ends (IsSteady host) schema script words ending old new before after)
+    → IsHonest ends.tables s pieces (calls_of ends)
     → IsTrue (server_at_last s pieces).database words.limits new_past (calls_of ends) ending
 
 -- Each text that `semi` writes for a join tells the rows of the join that a line of its script asks, on the server's tables at the version
@@ -49,7 +50,8 @@ GroupsAreRight {H} IsSteady = (host : H) (schema script : List ℕ) (words : Cli
 -- So is each step of a run of `warm`, where its image is true of the server before the first frame: its version is one of the server's, and
 -- each part has just the rows there that lie in its rects.
 abbrev pub WarmRunsAreTrue : {H : Type 0} → (H → Type 0) → Type 0
-WarmRunsAreTrue {H} IsSteady = (host : H) (schema script : List ℕ) (words : ClientWords) (tables : List Table) (ahead : Ahead) (bytes : List ℕ) (ending : Ending)
+WarmRunsAreTrue {H} IsSteady =
+    (host : H) (schema script : List ℕ) (words : ClientWords) (tables : List Table) (ahead : Ahead) (bytes : List ℕ) (ending : Ending)
     (old new : Linking) (before after : Writing) (s : Server) (pieces : List (List Input))
     → AsksLines words.id schema script tables ahead → (warms : Warms (IsSteady host) words tables ahead bytes ending old new before after)
     → AreTrueAt s.database warms.starts.image.version warms.starts.image.kept

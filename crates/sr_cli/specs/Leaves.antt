@@ -16,7 +16,8 @@ use Rattle.sr_cli.specs.declared.report.Refusal.TheVariants.{Read, Write, Link, 
 -- ---- what stays
 
 -- A call has only read.
-pub record OnlyReads (H : Type 0) (writing : H → Writing) (linking : H → Linking) (held : H → List ℕ → Option (List ℕ)) (complaints : H → Option (List ℕ)) (IsSteady : H → Type 0) (old new : H) : Type 0 where
+pub record OnlyReads (H : Type 0) (writing : H → Writing) (linking : H → Linking) (held : H → List ℕ → Option (List ℕ))
+    (complaints : H → Option (List ℕ)) (IsSteady : H → Type 0) (old new : H) : Type 0 where
   pub stays_steady : IsSteady old → IsSteady new
   pub writing_stays : writing new ≡ writing old
   pub linking_stays : linking new ≡ linking old
@@ -24,7 +25,8 @@ pub record OnlyReads (H : Type 0) (writing : H → Writing) (linking : H → Lin
   pub complaints_stay : complaints new ≡ complaints old
 
 -- It has only written.
-pub record OnlyWrites (H : Type 0) (reading : H → Reading) (linking : H → Linking) (held : H → List ℕ → Option (List ℕ)) (complaints : H → Option (List ℕ)) (IsSteady : H → Type 0) (old new : H) : Type 0 where
+pub record OnlyWrites (H : Type 0) (reading : H → Reading) (linking : H → Linking) (held : H → List ℕ → Option (List ℕ))
+    (complaints : H → Option (List ℕ)) (IsSteady : H → Type 0) (old new : H) : Type 0 where
   pub stays_steady : IsSteady old → IsSteady new
   pub reading_stays : reading new ≡ reading old
   pub linking_stays : linking new ≡ linking old
@@ -32,7 +34,8 @@ pub record OnlyWrites (H : Type 0) (reading : H → Reading) (linking : H → Li
   pub complaints_stay : complaints new ≡ complaints old
 
 -- It has only complained.
-pub record OnlyComplains (H : Type 0) (reading : H → Reading) (writing : H → Writing) (linking : H → Linking) (held : H → List ℕ → Option (List ℕ)) (IsSteady : H → Type 0) (old new : H) : Type 0 where
+pub record OnlyComplains (H : Type 0) (reading : H → Reading) (writing : H → Writing) (linking : H → Linking) (held : H → List ℕ → Option (List ℕ))
+    (IsSteady : H → Type 0) (old new : H) : Type 0 where
   pub stays_steady : IsSteady old → IsSteady new
   pub reading_stays : reading new ≡ reading old
   pub writing_stays : writing new ≡ writing old
@@ -115,7 +118,8 @@ abbrev pub IsUndone : ℕ → Type 0
 IsUndone status = (status ≡ 2) ⊎ (status ≡ 3) ⊎ (status ≡ 6) ⊎ (status ≡ 7) ⊎ (status ≡ 10)
 
 -- What a run of any command leaves, by the status that it ends with.
-pub record Leaves (H : Type 0) (held : H → List ℕ → Option (List ℕ)) (reading : H → Reading) (writing : H → Writing) (linking : H → Linking) (complaints : H → Option (List ℕ)) (IsSteady : H → Type 0) (old new : H) (status : ℕ) : Type 0 where
+pub record Leaves (H : Type 0) (held : H → List ℕ → Option (List ℕ)) (reading : H → Reading) (writing : H → Writing) (linking : H → Linking)
+    (complaints : H → Option (List ℕ)) (IsSteady : H → Type 0) (old new : H) (status : ℕ) : Type 0 where
   pub read_fault_is_counted : status ≡ 3 → Rose (reading old).faults (reading new).faults
   pub write_fault_is_counted : status ≡ 4 → Rose (writing old).faults (writing new).faults
   pub reading_keeps_faults : (status ≡ 3) ⊎ ((reading new).faults ≡ (reading old).faults)

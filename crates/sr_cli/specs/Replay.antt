@@ -117,14 +117,16 @@ pub record FitsFiles (clients : ℕ) (script : List ℕ) (loads : List Load) (st
   pub too_long : status ≡ 10 → AreLong script loads
   pub line : status ≡ 6 → (at : LinePlace) × (outside clients script ≡ Some at)
   pub inside : (status ≡ 0) ⊎ (status ≡ 7) → outside clients script ≡ None
-  pub refused : status ≡ 7 → ((line : ℕ) × (fault : Fault) × FirstRefused clients 1 [] (lines_of script) line fault) ⊎ ((table : List ℕ) × (fault : Fault) × RefusesLoad clients script loads table fault)
+  pub refused : status ≡ 7 → ((line : ℕ) × (fault : Fault) × FirstRefused clients 1 [] (lines_of script) line fault)
+      ⊎ ((table : List ℕ) × (fault : Fault) × RefusesLoad clients script loads table fault)
   pub accepts : status ≡ 0 → (line : ℕ) (fault : Fault) → ¬ FirstRefused clients 1 [] (lines_of script) line fault
   pub loads_accepted : status ≡ 0 → (table : List ℕ) (fault : Fault) → ¬ RefusesLoad clients script loads table fault
 
 -- ---- a run
 
 -- What `replay` does over a host, by the status that it ends with.
-pub record Replays (H : Type 0) (held : H → List ℕ → Option (List ℕ)) (reading : H → Reading) (writing : H → Writing) (linking : H → Linking) (complaints : H → Option (List ℕ)) (IsSteady : H → Type 0) (old new : H) (words : ReplayWords) (status : ℕ) : Type 0 where
+pub record Replays (H : Type 0) (held : H → List ℕ → Option (List ℕ)) (reading : H → Reading) (writing : H → Writing) (linking : H → Linking)
+    (complaints : H → Option (List ℕ)) (IsSteady : H → Type 0) (old new : H) (words : ReplayWords) (status : ℕ) : Type 0 where
   pub only : (status ≡ 0) ⊎ (status ≡ 3) ⊎ (status ≡ 4) ⊎ (status ≡ 6) ⊎ (status ≡ 7) ⊎ (status ≡ 9) ⊎ (status ≡ 10)
   pub replayed : status ≡ 0 → Replayed (held old) words (writing old).written (writing new).written
   pub part_after_fault : status ≡ 4 → ReplayedInPart (held old) words (writing old).written (writing new).written
@@ -147,8 +149,10 @@ abbrev pub Refuses : Options → List ℕ → List Load → Writing → Writing 
 Refuses options script loads before after refusal.Write = WrotePart before.written after.written options script loads
 Refuses options script loads before after refusal.Memory = (after ≡ before) ⊎ WrotePart before.written after.written options script loads
 Refuses options script loads before after (refusal.Line line place) = outside options.clients script ≡ Some (record { line = line; place = place })
-Refuses options script loads before after (refusal.Setup line fault) = (outside options.clients script ≡ None) × FirstRefused options.clients 1 [] (lines_of script) line fault
-Refuses options script loads before after (refusal.Load table fault) = (outside options.clients script ≡ None) × RefusesLoad options.clients script loads table fault
+Refuses options script loads before after (refusal.Setup line fault) =
+    (outside options.clients script ≡ None) × FirstRefused options.clients 1 [] (lines_of script) line fault
+Refuses options script loads before after (refusal.Load table fault) =
+    (outside options.clients script ≡ None) × RefusesLoad options.clients script loads table fault
 Refuses options script loads before after other = ⊥
 
 -- why a replay is refused, by the files that the words name

@@ -157,7 +157,8 @@ pub record FitsFiles (schema exec : List ℕ) (loads : List Load) (status : ℕ)
   pub long : AreLong schema exec loads → (status ≡ 9) ⊎ (status ≡ 10)
   pub too_long : status ≡ 10 → AreLong schema exec loads
   pub line : status ≡ 6 → (at : LinePlace) × (outside schema exec ≡ Some at)
-  pub refused : status ≡ 7 → ((line : ℕ) × (fault : Fault) × RefusesCreate schema exec line fault) ⊎ ((table : List ℕ) × (fault : Fault) × RefusesLoad schema exec loads table fault)
+  pub refused : status ≡ 7 → ((line : ℕ) × (fault : Fault) × RefusesCreate schema exec line fault)
+      ⊎ ((table : List ℕ) × (fault : Fault) × RefusesLoad schema exec loads table fault)
   pub inside : DidRun status → outside schema exec ≡ None
   pub accepts : DidRun status → (line : ℕ) (fault : Fault) → ¬ RefusesCreate schema exec line fault
   pub accepts_loads : DidRun status → (table : List ℕ) (fault : Fault) → ¬ RefusesLoad schema exec loads table fault
@@ -165,12 +166,14 @@ pub record FitsFiles (schema exec : List ℕ) (loads : List Load) (status : ℕ)
 -- ---- a run
 
 -- What `serve` does over a host, by the status that it ends with.
-pub record Serves (H : Type 0) (held : H → List ℕ → Option (List ℕ)) (reading : H → Reading) (writing : H → Writing) (linking : H → Linking) (complaints : H → Option (List ℕ)) (IsSteady : H → Type 0) (old new : H) (words : ServeWords) (status : ℕ) : Type 0 where
+pub record Serves (H : Type 0) (held : H → List ℕ → Option (List ℕ)) (reading : H → Reading) (writing : H → Writing) (linking : H → Linking)
+    (complaints : H → Option (List ℕ)) (IsSteady : H → Type 0) (old new : H) (words : ServeWords) (status : ℕ) : Type 0 where
   pub only : (status ≡ 0) ⊎ (status ≡ 3) ⊎ (status ≡ 4) ⊎ (status ≡ 5) ⊎ (status ≡ 6) ⊎ (status ≡ 7) ⊎ (status ≡ 9) ⊎ (status ≡ 10)
   pub whole : status ≡ 0 → Served (held old) words Whole (linking old) (linking new) (writing old) (writing new)
   pub unwritten : status ≡ 4 → Served (held old) words Unwritten (linking old) (linking new) (writing old) (writing new)
   pub faulty : status ≡ 5 → Served (held old) words Faulty (linking old) (linking new) (writing old) (writing new)
-  pub in_want : status ≡ 9 → Untouched (linking old) (linking new) (writing old) (writing new) ⊎ ServedInPart (held old) words (linking old) (linking new) (writing old) (writing new)
+  pub in_want : status ≡ 9 → Untouched (linking old) (linking new) (writing old) (writing new)
+      ⊎ ServedInPart (held old) words (linking old) (linking new) (writing old) (writing new)
   pub too_long : status ≡ 10 → SomeTooLong (held old) (reading new).left (files_of words)
   pub line : status ≡ 6 → NamedLine (held old) words (complaints old) (complaints new)
   pub refused : status ≡ 7 → NamedCreate (held old) words (complaints old) (complaints new) ⊎ NamedLoad (held old) words (complaints old) (complaints new)

@@ -57,7 +57,8 @@ pub record IsCall {C : Type 0} (c : Client) (call : Call C) : Type 0 where
 -- What the link tells where the client's is up: the connection of the present call, behind those before. Else it tells all of them.
 abbrev pub IsThere : {C : Type 0} → Bool → List (Call C) → Call C → Linking → Linking → Type 0
 IsThere {C} true earlier call old l = connections l ≡ connections old ++ calls_told (earlier ++ call ∷ [])
-IsThere {C} false earlier call old l = (l.present ≡ call.told) × (l.past ≡ connections old ++ calls_told earlier) × (fails call ≡ false) × (call.connected ≡ true)
+IsThere {C} false earlier call old l =
+    (l.present ≡ call.told) × (l.past ≡ connections old ++ calls_told earlier) × (fails call ≡ false) × (call.connected ≡ true)
 
 -- a link that told its peers still does
 abbrev pub TellsStill : Linking → Linking → Type 0
@@ -137,7 +138,8 @@ module _ {Steady : Type 0} (C : Type 0) (Stands : C → Client → Type 0) (lent
     pub steps : Stepped s ahead line came (all_done (earlier ++ call ∷ [])) P code
 
   -- All that had to be sent was.
-  pub record At (s : Start C Steady) (ahead : Ahead) (line : ℕ) (came : Count) (failed : Bool) (l : Linking) (P : List ℕ → Type 0) (feed : List ℕ) (code : C) : Type 0 where
+  pub record At (s : Start C Steady) (ahead : Ahead) (line : ℕ) (came : Count) (failed : Bool) (l : Linking) (P : List ℕ → Type 0) (feed : List ℕ)
+      (code : C) : Type 0 where
     pub course : Course s ahead line came P feed code
     pub sent : IfSome course.call.told (λ t. SentAs course.call.torn (requests_of (steps_in (done_in course.call))) t.sent)
     pub counted : course.call.torn ≡ true → fails course.call ≡ true

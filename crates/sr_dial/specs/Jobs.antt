@@ -21,7 +21,8 @@ IsJob schema (job.Line line) task = IsTask schema line.event task
 IsJob schema (job.Say number text) task = task ≡ Say (string_bytes text)
 
 -- It is the next task of a plan, and whoever hands it out goes on with what follows.
-pub record GivesNext {S : Type 0} (Follows : List Table → S → Ahead → Type 0) (schema : List Table) (job : Job) (plan : Plan Task Answer) (new : S) : Type 0 where
+pub record GivesNext {S : Type 0} (Follows : List Table → S → Ahead → Type 0) (schema : List Table) (job : Job) (plan : Plan Task Answer)
+    (new : S) : Type 0 where
   pub task : Task
   pub further : Ahead
   pub is : IsJob schema job task

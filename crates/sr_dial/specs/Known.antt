@@ -89,7 +89,8 @@ IsFrom number m = names_client number m ≡ true
 -- What a client did, from this past: it has an outcome, by which are its lines, what it sends and the answer that it lends, and a next past,
 -- for which it stands then. What is sent is from it, and is out, and over a cut link nothing is. And it is fair, and
 -- lawful on any link.
-pub record Makes {C : Type 0} (Stands : C → Client → Type 0) (lent : C → Option Answer) (IsOf : Standing C) (Has : Holding C) (s : Setting) (old new : C) (c : Client) (deed : Deed) (lines : List TraceLine) (sent : List Message) : Type 0 where
+pub record Makes {C : Type 0} (Stands : C → Client → Type 0) (lent : C → Option Answer) (IsOf : Standing C) (Has : Holding C) (s : Setting)
+    (old new : C) (c : Client) (deed : Deed) (lines : List TraceLine) (sent : List Message) : Type 0 where
   pub outcome : Outcome
   pub next : Client
   pub lines_are : lines ≡ lines_of s.number deed outcome
@@ -110,7 +111,8 @@ MaySend (Bad why) = Unit {0}
 
 -- A message was taken, which need not be refused; or it is refused.
 abbrev pub TakesAs : {C : Type 0} → Came → (C → Client → Type 0) → (C → Option Answer) → Standing C → Holding C → Setting → C → C → Client → Message → Type 0
-TakesAs {C} (Taken told) Stands lent IsOf Has s old new c m = Makes Stands lent IsOf Has s old new c (Took m) told.lines told.sent × (misfit s.schema c.out c.laid c.version m ≡ None)
+TakesAs {C} (Taken told) Stands lent IsOf Has s old new c m =
+    Makes Stands lent IsOf Has s old new c (Took m) told.lines told.sent × (misfit s.schema c.out c.laid c.version m ≡ None)
 TakesAs {C} (Bad why) Stands lent IsOf Has s old new c m = misfit s.schema c.out c.laid c.version m ≡ Some why
 
 -- It leaves the link as it is.
@@ -135,11 +137,13 @@ IsFairlyExplained {C} IsOf limits code c (Ok query) result =
 abbrev pub AreFairlyExplained : {C : Type 0} → Standing C → Limits → C → Client → List (Done C) → Type 0
 AreFairlyExplained {C} IsOf limits code c [] = Unit {0}
 AreFairlyExplained {C} IsOf limits code c (Made number cause step ∷ ds) = AreFairlyExplained IsOf limits step.code step.past ds
-AreFairlyExplained {C} IsOf limits code c (Explained number text result ∷ ds) = IsFairlyExplained IsOf limits code c text result × AreFairlyExplained IsOf limits code c ds
+AreFairlyExplained {C} IsOf limits code c (Explained number text result ∷ ds) =
+    IsFairlyExplained IsOf limits code c text result × AreFairlyExplained IsOf limits code c ds
 AreFairlyExplained {C} IsOf limits code c (Said number text ∷ ds) = AreFairlyExplained IsOf limits code c ds
 
 -- These lines tell it.
-pub record Tells {C : Type 0} (IsOf : Standing C) (s : Setting) (code : C) (c : Client) (text : Result model.Query Fault) (lines : List TraceLine) : Type 0 where
+pub record Tells {C : Type 0} (IsOf : Standing C) (s : Setting) (code : C) (c : Client) (text : Result model.Query Fault)
+    (lines : List TraceLine) : Type 0 where
   pub result : Result Explanation Fault
   pub lines_are : lines ≡ explain_lines s.number result
   pub fair : IsFairlyExplained IsOf s.limits code c text result

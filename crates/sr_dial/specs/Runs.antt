@@ -172,7 +172,8 @@ is_unwritten other = false
 -- A run over a plan by a client of this setting, which was `c` before. Call by call it resumed, and then did what the plan asks, in order.
 -- The link tells just these connections more, each made at this address; where it told its peers, it tells each that was made. It is given
 -- up. Each request is from that client. A request takes at most a million frames, and a run that ends whole has met no fault of the link.
-pub record Ran (C : Type 0) (k : Setting) (c : Client) (address : List ℕ) (plan : Plan Task Answer) (ended : Ending) (old new : Linking) (before after : Writing) : Type 0 where
+pub record Ran (C : Type 0) (k : Setting) (c : Client) (address : List ℕ) (plan : Plan Task Answer) (ended : Ending) (old new : Linking)
+    (before after : Writing) : Type 0 where
   pub earlier : List (Call C)
   pub last : Call C
   pub are : AreCalls c (earlier ++ last ∷ [])
@@ -188,12 +189,14 @@ pub record Ran (C : Type 0) (k : Setting) (c : Client) (address : List ℕ) (pla
   pub hung_up : new.is_up ≡ false
   pub faults : RoseBy old.faults (count_faults (earlier ++ last ∷ [])) new.faults
   pub calm : ended ≡ ending.Whole → new.faults ≡ old.faults
-  pub ends : EndsBy ended k.schema (earlier ++ last ∷ []) (left_by c (earlier ++ last ∷ [])) last.left (left (stage_by k.keeps plan (all_done (earlier ++ last ∷ []))))
+  pub ends : EndsBy ended k.schema (earlier ++ last ∷ []) (left_by c (earlier ++ last ∷ [])) last.left
+      (left (stage_by k.keeps plan (all_done (earlier ++ last ∷ []))))
   pub writes : WritesAs k.says ended (flat_map (said_by k) (all_done (earlier ++ last ∷ []))) before after
 
 -- And each of its steps is fair, from this code on, and so is what was explained. And each is lawful: whatever the peer is, it goes by the
 -- client's rules, on the rows that the frames brought.
-pub record RanFairly (C : Type 0) (IsOf : Standing C) (Has : Holding C) (k : Setting) (code : C) (c : Client) (address : List ℕ) (plan : Plan Task Answer) (ended : Ending) (old new : Linking) (before after : Writing) : Type 0 where
+pub record RanFairly (C : Type 0) (IsOf : Standing C) (Has : Holding C) (k : Setting) (code : C) (c : Client) (address : List ℕ)
+    (plan : Plan Task Answer) (ended : Ending) (old new : Linking) (before after : Writing) : Type 0 where
   pub ran : Ran C k c address plan ended old new before after
   pub fair : AreFair IsOf k.limits code c (steps_in (all_done (ran.earlier ++ ran.last ∷ [])))
   pub lawful : AreLawful Has k.limits k.schema code c (steps_in (all_done (ran.earlier ++ ran.last ∷ [])))
@@ -201,7 +204,8 @@ pub record RanFairly (C : Type 0) (IsOf : Standing C) (Has : Holding C) (k : Set
 
 -- And this is the client that it leaves: the code that its steps leave, which stands for the past that they leave. A message that must be
 -- refused leaves a client of which nothing is known.
-pub record RanTo (C : Type 0) (Stands : C → Client → Type 0) (IsOf : Standing C) (Has : Holding C) (k : Setting) (code : C) (c : Client) (address : List ℕ) (plan : Plan Task Answer) (ended : Ending) (old new : Linking) (before after : Writing) (left : C) : Type 0 where
+pub record RanTo (C : Type 0) (Stands : C → Client → Type 0) (IsOf : Standing C) (Has : Holding C) (k : Setting) (code : C) (c : Client)
+    (address : List ℕ) (plan : Plan Task Answer) (ended : Ending) (old new : Linking) (before after : Writing) (left : C) : Type 0 where
   pub run : RanFairly C IsOf Has k code c address plan ended old new before after
   pub code_is : is_bad ended ≡ false → code_after code (steps_in (all_done (run.ran.earlier ++ run.ran.last ∷ []))) ≡ left
   pub stands : is_bad ended ≡ false → Stands left (left_by c (run.ran.earlier ++ run.ran.last ∷ []))
@@ -212,14 +216,16 @@ abbrev pub LinksSteadily : {C : Type 0} → Type 0 → List (Call C) → Linking
 LinksSteadily {C} Steady calls old new = Steady → HasPeers (length calls) old → (count_faults calls ≡ 0) × (new.faults ≡ old.faults)
 
 -- And so it is of such a run.
-pub record RanSteadily (C : Type 0) (Steady : Type 0) (Stands : C → Client → Type 0) (IsOf : Standing C) (Has : Holding C) (k : Setting) (code : C) (c : Client) (address : List ℕ) (plan : Plan Task Answer) (ended : Ending) (old new : Linking) (before after : Writing) (left : C) : Type 0 where
+pub record RanSteadily (C : Type 0) (Steady : Type 0) (Stands : C → Client → Type 0) (IsOf : Standing C) (Has : Holding C) (k : Setting) (code : C)
+    (c : Client) (address : List ℕ) (plan : Plan Task Answer) (ended : Ending) (old new : Linking) (before after : Writing) (left : C) : Type 0 where
   pub to : RanTo C Stands IsOf Has k code c address plan ended old new before after left
   pub steady_links : LinksSteadily Steady (to.run.ran.earlier ++ to.run.ran.last ∷ []) old new
 
 -- Out of memory: calls that were over, and one that was cut short, or none. What was done went by the plan and is fair, as above, and what
 -- was sent and written is a beginning of what it gives: all requests but the last, of which some bytes may be missing, and of the lines as
 -- many as came to be written.
-pub record RanInPart (C : Type 0) (IsOf : Standing C) (Has : Holding C) (k : Setting) (code : C) (c : Client) (address : List ℕ) (plan : Plan Task Answer) (old new : Linking) (before after : Writing) : Type 0 where
+pub record RanInPart (C : Type 0) (IsOf : Standing C) (Has : Holding C) (k : Setting) (code : C) (c : Client) (address : List ℕ)
+    (plan : Plan Task Answer) (old new : Linking) (before after : Writing) : Type 0 where
   pub calls : List (Call C)
   pub earlier : List (Call C)
   pub cut_short : Option (Call C)

@@ -85,7 +85,8 @@ pub trait Asks: Peer + Hearer {
     /// Explains how it would answer a query, or why its text is refused. Answers the lines.
     fn explain(&self, alloc: Global, query: Result<Query, Fault>) -> Result<TraceLines, NoMemory>
         requires means { (text : Result TheQuery TheFault) × Means (setting self.now).schema query text }
-        ensures told { (c : Past) (text : Result TheQuery TheFault) → stands self.now c → Means (setting self.now).schema query text → IfOk result (Tells Self.is_of (setting self.now) self.now c text) };
+        ensures told { (c : Past) (text : Result TheQuery TheFault) → stands self.now c → Means (setting self.now).schema query text
+            → IfOk result (Tells Self.is_of (setting self.now) self.now c text) };
 
     /// Takes a message of the server.
     fn take(&mut self, alloc: Global, message: Message) -> Result<Came, NoMemory>

@@ -40,7 +40,8 @@ pub trait Plans {
 
     /// Hands out the next job, behind one that had this answer; or none, where all is done.
     fn next(&mut self, alloc: Global, answer: Option<&Answer>) -> Result<Option<Job>, NoMemory>
-        ensures gives { (schema : List TheTable) (ahead : Ahead) → follows schema self.old ahead → IfOk result (λ job. Gives follows schema job (ahead (option_copied answer.entry)) self.new) }
+        ensures gives { (schema : List TheTable) (ahead : Ahead) → follows schema self.old ahead
+            → IfOk result (λ job. Gives follows schema job (ahead (option_copied answer.entry)) self.new) }
         ensures falls { IfOk result (λ job. IfSome job (λ some. depth self.new < depth self.old)) };
 }
 

@@ -86,8 +86,11 @@ IsAskedFor (Say text) = Unit {0}
 -- So it is of a run over any plan and any number of calls, for any client whose link is cut, and that has the rows of its version on the
 -- server, within its budgets, and rows that were told of tables of its schema.
 abbrev pub HonestRunsAreTrue : {C : Type 0} → Standing C → Holding C → Type 0
-HonestRunsAreTrue {C} IsOf Has = (k : Setting) (s : Server) (pieces : List (List Input)) (code : C) (c : Client) (address : List ℕ) (plan : Plan Task Answer) (ended : Ending) (old new : Linking) (before after : Writing) (told : Told)
-    → AsksKeys IsOf → list_all is_table k.schema ≡ true → Rests IsOf s.database code c → KeepsToBudgets (basis_of s.database k.limits) c → Has k.schema code c told → AllTasks IsAskedFor plan
+HonestRunsAreTrue {C} IsOf Has =
+    (k : Setting) (s : Server) (pieces : List (List Input)) (code : C) (c : Client) (address : List ℕ) (plan : Plan Task Answer) (ended : Ending)
+    (old new : Linking) (before after : Writing) (told : Told)
+    → AsksKeys IsOf → list_all is_table k.schema ≡ true → Rests IsOf s.database code c → KeepsToBudgets (basis_of s.database k.limits) c
+    → Has k.schema code c told → AllTasks IsAskedFor plan
     → (run : RanFairly C IsOf Has k code c address plan ended old new before after) → IsHonest k.schema s pieces (run.ran.earlier ++ run.ran.last ∷ [])
     → IsTrue (server_at_last s pieces).database k.limits c (run.ran.earlier ++ run.ran.last ∷ []) ended
 
@@ -99,7 +102,9 @@ AsksFew other = Unit {0}
 -- So few frames come for each request that a run never ends with 11, where the server's log keeps at most 500,000 changes, its tables have at
 -- most 65,536 rows, and the plan's queries have at most four parts.
 abbrev pub HonestRunsAreShort : {C : Type 0} → Standing C → Holding C → Type 0
-HonestRunsAreShort {C} IsOf Has = (k : Setting) (s : Server) (pieces : List (List Input)) (code : C) (c : Client) (address : List ℕ) (plan : Plan Task Answer) (ended : Ending) (old new : Linking) (before after : Writing) (told : Told)
+HonestRunsAreShort {C} IsOf Has =
+    (k : Setting) (s : Server) (pieces : List (List Input)) (code : C) (c : Client) (address : List ℕ) (plan : Plan Task Answer) (ended : Ending)
+    (old new : Linking) (before after : Writing) (told : Told)
     → AsksKeys IsOf → list_all is_table k.schema ≡ true → Rests IsOf s.database code c → Has k.schema code c told → AllTasks IsAskedFor plan
     → (run : RanFairly C IsOf Has k code c address plan ended old new before after) → IsHonest k.schema s pieces (run.ran.earlier ++ run.ran.last ∷ [])
     → s.database.log_limit ≤ 500000 → HasFewRows (server_at_last s pieces).database → AllTasks AsksFew plan → status_of ended ≢ 11
@@ -109,10 +114,15 @@ HonestRunsAreShort {C} IsOf Has = (k : Setting) (s : Server) (pieces : List (Lis
 -- Over any link, whatever the peer is: each step of a run of a client that had rows that were told goes by the rules, on what the frames
 -- brought to these, and the client keeps to its budgets by them.
 abbrev pub RunsGoByTold : {C : Type 0} → Standing C → Holding C → Type 0
-RunsGoByTold {C} IsOf Has = (k : Setting) (code : C) (c : Client) (address : List ℕ) (plan : Plan Task Answer) (ended : Ending) (old new : Linking) (before after : Writing) (told : Told) → Has k.schema code c told
-    → (run : RanFairly C IsOf Has k code c address plan ended old new before after) → GoByTold k.limits k.schema told c (steps_in (all_done (run.ran.earlier ++ run.ran.last ∷ [])))
+RunsGoByTold {C} IsOf Has =
+    (k : Setting) (code : C) (c : Client) (address : List ℕ) (plan : Plan Task Answer) (ended : Ending) (old new : Linking) (before after : Writing)
+    (told : Told) → Has k.schema code c told
+    → (run : RanFairly C IsOf Has k code c address plan ended old new before after)
+    → GoByTold k.limits k.schema told c (steps_in (all_done (run.ran.earlier ++ run.ran.last ∷ [])))
 
 -- So does each step of one that is broken off.
 abbrev pub BrokenRunsGoByTold : {C : Type 0} → Standing C → Holding C → Type 0
-BrokenRunsGoByTold {C} IsOf Has = (k : Setting) (code : C) (c : Client) (address : List ℕ) (plan : Plan Task Answer) (old new : Linking) (before after : Writing) (told : Told) → Has k.schema code c told
+BrokenRunsGoByTold {C} IsOf Has =
+    (k : Setting) (code : C) (c : Client) (address : List ℕ) (plan : Plan Task Answer) (old new : Linking) (before after : Writing) (told : Told)
+    → Has k.schema code c told
     → (run : RanInPart C IsOf Has k code c address plan old new before after) → GoByTold k.limits k.schema told c (steps_in (all_done run.calls))

@@ -14,4 +14,5 @@ use Rattle.sr_dial.specs.declared.parts.Answer.{Answer}
 -- It did the tasks of the list in order, up to one of them; and where nothing is left to do, all of them.
 abbrev pub ListsAreDoneInOrder : Type 0 → Type 0
 ListsAreDoneInOrder C = (k : Setting) (c : Client) (address : List ℕ) (tasks : List (ℕ × Task)) (ended : Ending) (old new : Linking) (before after : Writing)
-    → (run : Ran C k c address (plan_of tasks) ended old new before after) → DoesBeginning Task Answer tasks (dids_of k.keeps (all_done (run.earlier ++ run.last ∷ [])))
+    → (run : Ran C k c address (plan_of tasks) ended old new before after)
+    → DoesBeginning Task Answer tasks (dids_of k.keeps (all_done (run.earlier ++ run.last ∷ [])))

@@ -55,4 +55,5 @@ module _ (C : Type 0) (Gives : Database → Message → Result Tables Fault → 
 
   -- So the links of calls to a server that serves are honest.
   abbrev pub ServedCallsAreExplained : Type 0
-  ServedCallsAreExplained = (db last : Database) (calls : List (Call C)) (talks : List Conversation) → AreServedCalls db calls talks last → HaveInputs db calls last
+  ServedCallsAreExplained =
+      (db last : Database) (calls : List (Call C)) (talks : List Conversation) → AreServedCalls db calls talks last → HaveInputs db calls last

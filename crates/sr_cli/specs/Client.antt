@@ -1,5 +1,5 @@
 -- What a client does, of each kind, and why it ends with each status.
-use Rattle.std.specs.Prelude.{◌≡◌, ◌≢◌, ℕ, ◌⊎◌, Bool, true, List, [], ◌∷◌, Option, Some, None, Result, Ok, Err}
+use Rattle.std.specs.Prelude.{◌≡◌, ◌≢◌, ◌<◌, ◌^◌, ℕ, ◌⊎◌, length, Bool, true, List, [], ◌∷◌, Option, Some, None, Result, Ok, Err}
 use Rattle.sr_calls.specs.Runs.{RanNewInPart, RanNewSteadily}
 use Rattle.sr_cell.specs.declared.fault.Fault.{Fault}
 use Rattle.sr_cell.specs.declared.list.No.{No}
@@ -39,6 +39,11 @@ files_of words = words.schema ∷ words.script ∷ []
 pub record AreFiles (held : List ℕ → Option (List ℕ)) (words : ClientWords) (schema script : List ℕ) : Type 0 where
   pub schema_read : IsWhatIsHeld (held words.schema) schema
   pub script_read : IsWhatIsHeld (held words.script) script
+
+-- both are short enough to be read as lines
+pub record AreShort (files : Files) : Type 0 where
+  pub schema : length files.schema < 2 ^ 32
+  pub script : length files.script < 2 ^ 32
 
 -- ---- the run
 

@@ -34,7 +34,7 @@ use Rattle.sr_wire.specs.declared.bad_frame.BadFrame.{BadFrame}
 use Rattle.sr_wire.specs.declared.wire_fault.WireFault.{WireFault}
 use Rattle.sr_words.specs.declared.command.ClientWords.{ClientWords}
 use Rattle.sr_words.specs.declared.command.WarmWords.{WarmWords}
-use Rattle.sr_cli.specs.Client.{AreFiles, AreHeld, AreLong, CountsStop, DidRun, FitsFiles, IsEnd, IsOutside, IsRefusedCreate, NamedCreate, NamedLine, Untouched, files_of}
+use Rattle.sr_cli.specs.Client.{AreFiles, AreHeld, AreLong, AreShort, CountsStop, DidRun, FitsFiles, IsEnd, IsOutside, IsRefusedCreate, NamedCreate, NamedLine, Untouched, files_of}
 use Rattle.sr_cli.specs.Errors.{bad_text, spoiled_text, words_text}
 use Rattle.sr_cli.specs.Files.{IsLong, IsWhatIsHeld, SomeTooLong}
 use Rattle.sr_cli.specs.Kinds.{AsksLines, fault_by}
@@ -427,8 +427,7 @@ pub record BeginsAs (words : ClientWords) (tables : List Table) (bytes text : Li
 -- the files of the words, which are short
 pub record AreShortFiles (held : List ℕ → Option (List ℕ)) (words : ClientWords) (files : Files) : Type 0 where
   pub are : AreFiles held words files.schema files.script
-  pub schema : length files.schema < 2 ^ 32
-  pub script : length files.script < 2 ^ 32
+  pub short : AreShort files
 
 -- ---- over a host
 

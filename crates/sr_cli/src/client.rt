@@ -1,7 +1,8 @@
 //! Running a script as a client of a server.
-ghost use Rattle.std.specs.Prelude.{◌≡◌, ◌<◌, ◌≤◌, ◌^◌, length, IfOk, IfErr, OnOk, IsErrOf};
+ghost use Rattle.std.specs.Prelude.{◌≡◌, ◌<◌, ◌^◌, length, IfOk, IfErr, OnOk, IsErrOf};
 ghost use Rattle.sr_dial.specs.declared.ending.Ending.TheVariants.{Whole};
-ghost use Rattle.sr_cli.specs.Client.{AreFiles, AreNotHeld, CountsStop, Dialled, Dials, StopsOver, files_of};
+ghost use Rattle.sr_words.specs.Ranges.{IsClient};
+ghost use Rattle.sr_cli.specs.Client.{AreFiles, AreNotHeld, AreShort, CountsStop, Dialled, Dials, StopsOver, files_of};
 ghost use Rattle.sr_cli.specs.Leaves.{Leaves, NotRead, OnlyReads, OnlyRuns};
 ghost use Rattle.sr_cli.specs.declared.file.ReadFault.TheVariants.{Fault as ReadFailed};
 ghost use Rattle.sr_cli.specs.declared.stop.Stop.TheVariants.{Refused};
@@ -18,9 +19,7 @@ use std::alloc::Global;
 
 /// Runs the script that the words name, and answers the status to end with.
 pub(crate) fn run_client<H: Host>(alloc: Global, words: &ClientWords, host: &mut H) -> u8
-    requires first { 1 ≤ words.now.id }
-    requires last { words.now.id ≤ 64 }
-    requires regions { words.now.limits.regions ≤ 1024 }
+    requires words { IsClient words.now }
     ensures dials { Dials H H.held H.reading H.writing H.linking H.complaints H.IsSteady host.old host.new words.now result }
     ensures leaves { Leaves H H.held H.reading H.writing H.linking H.complaints H.IsSteady host.old host.new result }
 {
@@ -35,9 +34,7 @@ pub(crate) fn run_client<H: Host>(alloc: Global, words: &ClientWords, host: &mut
 
 /// Reads the files that the words name, and runs the script.
 fn client_files<H: Host>(alloc: Global, words: &ClientWords, host: &mut H) -> Result<(), Stop>
-    requires first { 1 ≤ words.now.id }
-    requires last { words.now.id ≤ 64 }
-    requires regions { words.now.limits.regions ≤ 1024 }
+    requires words { IsClient words.now }
     ensures whole { OnOk result (Dialled (H.IsSteady host.old) (H.held host.old) words.now Whole
         (H.linking host.old) (H.linking host.new) (H.writing host.old) (H.writing host.new)) }
     ensures stopped { IfErr result (StopsOver (H.IsSteady host.old) (H.held host.old) words.now (H.reading host.new).left
@@ -60,8 +57,7 @@ pub(crate) fn read_files<H: Host>(
     host: &mut H,
 ) -> Result<Files, ReadFault>
     ensures read { IfOk result (λ files. AreFiles (H.held host.old) words.now files.schema files.script) }
-    ensures schema { IfOk result (λ files. length files.schema < 2 ^ 32) }
-    ensures script { IfOk result (λ files. length files.script < 2 ^ 32) }
+    ensures short { IfOk result AreShort }
     ensures not_read { IfErr result (NotRead (H.held host.old) (files_of words.now) (H.reading host.old) (H.reading host.new)) }
     ensures ok_keeps_faults { OnOk result ((H.reading host.new).faults ≡ (H.reading host.old).faults) }
     ensures steady { H.IsSteady host.old → IsErrOf result ReadFailed → AreNotHeld (H.held host.old) words.now }

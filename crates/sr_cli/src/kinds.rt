@@ -1,5 +1,5 @@
 //! Running the script of a client over its tables, by the client's kind.
-ghost use Rattle.std.specs.Prelude.{◌≡◌, ◌≢◌, ◌<◌, ◌≤◌, ◌^◌, true, Bool, length, IfOk, IfErr, OnErr, OnOk, IsErrOf, IsTrue};
+ghost use Rattle.std.specs.Prelude.{◌≡◌, ◌≢◌, ◌<◌, ◌^◌, true, Bool, IfOk, IfErr, OnErr, OnOk, IsErrOf, IsTrue};
 ghost use Rattle.std.specs.List.{list_all};
 ghost use Rattle.sr_query.specs.Bound.{is_table};
 ghost use Rattle.sr_links.specs.Steps.{Resumed};
@@ -8,8 +8,9 @@ ghost use Rattle.sr_dial.specs.Calls.{Do};
 ghost use Rattle.sr_dial.specs.Following.{Ahead};
 ghost use Rattle.sr_dial.specs.declared.ending.Ending.TheVariants.{Unwritten, Whole};
 ghost use Rattle.sr_talk.specs.Rounds.{OnlyOutput};
+ghost use Rattle.sr_words.specs.Ranges.{IsClient};
 ghost use Rattle.sr_words.specs.declared.command.ClientKind.TheVariants.{Client as AsClient, Report as AsReport, Semi as AsSemi};
-ghost use Rattle.sr_cli.specs.Client.{BreaksOff, EndsOver, IsWritten, RunsAs, StopsBy};
+ghost use Rattle.sr_cli.specs.Client.{AreShort, BreaksOff, EndsOver, IsWritten, RunsAs, StopsBy};
 ghost use Rattle.sr_cli.specs.declared.report.Refusal.TheVariants.{Write};
 ghost use Rattle.sr_cli.specs.declared.stop.Stop.TheVariants.{Refused};
 
@@ -45,10 +46,8 @@ fn run_new<H: Host, P: Plans>(
     plans: &mut P,
     host: &mut H,
 ) -> Result<Ending, NoMemory>
-    requires first { 1 ≤ words.now.id }
-    requires last { words.now.id ≤ 64 }
+    requires words { IsClient words.now }
     requires tables { IsTrue (list_all is_table schema.now) }
-    requires regions { words.now.limits.regions ≤ 1024 }
     requires asks { (ahead : Ahead) × P.follows schema.now plans.old ahead }
     requires few { P.depth plans.old < 2 ^ 40 }
     ensures ran { (ahead : Ahead) → P.follows schema.now plans.old ahead
@@ -71,11 +70,8 @@ fn run_lines<H: Host>(
     host: &mut H,
 ) -> Result<Ending, Stop>
     requires kind { words.now.kind ≡ AsClient }
-    requires first { 1 ≤ words.now.id }
-    requires last { words.now.id ≤ 64 }
-    requires regions { words.now.limits.regions ≤ 1024 }
-    requires schema { length files.now.schema < 2 ^ 32 }
-    requires script { length files.now.script < 2 ^ 32 }
+    requires words { IsClient words.now }
+    requires files { AreShort files.now }
     ensures ends { IfOk result (EndsOver H H.linking H.writing H.IsSteady host.old host.new files.now words.now) }
     ensures stopped { IfErr result (StopsBy H H.linking H.writing H.IsSteady host.old host.new files.now words.now) }
     ensures steady_writes { H.IsSteady host.old → IsWritten result }
@@ -106,11 +102,8 @@ fn run_report<H: Host>(
     host: &mut H,
 ) -> Result<Ending, Stop>
     requires kind { words.now.kind ≡ AsReport }
-    requires first { 1 ≤ words.now.id }
-    requires last { words.now.id ≤ 64 }
-    requires regions { words.now.limits.regions ≤ 1024 }
-    requires schema { length files.now.schema < 2 ^ 32 }
-    requires script { length files.now.script < 2 ^ 32 }
+    requires words { IsClient words.now }
+    requires files { AreShort files.now }
     ensures ends { IfOk result (EndsOver H H.linking H.writing H.IsSteady host.old host.new files.now words.now) }
     ensures stopped { IfErr result (StopsBy H H.linking H.writing H.IsSteady host.old host.new files.now words.now) }
     ensures steady_writes { H.IsSteady host.old → IsWritten result }
@@ -140,11 +133,8 @@ fn run_semi<H: Host>(
     host: &mut H,
 ) -> Result<Ending, Stop>
     requires kind { words.now.kind ≡ AsSemi }
-    requires first { 1 ≤ words.now.id }
-    requires last { words.now.id ≤ 64 }
-    requires regions { words.now.limits.regions ≤ 1024 }
-    requires schema { length files.now.schema < 2 ^ 32 }
-    requires script { length files.now.script < 2 ^ 32 }
+    requires words { IsClient words.now }
+    requires files { AreShort files.now }
     ensures ends { IfOk result (EndsOver H H.linking H.writing H.IsSteady host.old host.new files.now words.now) }
     ensures stopped { IfErr result (StopsBy H H.linking H.writing H.IsSteady host.old host.new files.now words.now) }
     ensures steady_writes { H.IsSteady host.old → IsWritten result }
@@ -173,11 +163,8 @@ fn run_kind<H: Host>(
     files: &Files,
     host: &mut H,
 ) -> Result<Ending, Stop>
-    requires first { 1 ≤ words.now.id }
-    requires last { words.now.id ≤ 64 }
-    requires regions { words.now.limits.regions ≤ 1024 }
-    requires schema { length files.now.schema < 2 ^ 32 }
-    requires script { length files.now.script < 2 ^ 32 }
+    requires words { IsClient words.now }
+    requires files { AreShort files.now }
     ensures ends { IfOk result (EndsOver H H.linking H.writing H.IsSteady host.old host.new files.now words.now) }
     ensures stopped { IfErr result (StopsBy H H.linking H.writing H.IsSteady host.old host.new files.now words.now) }
     ensures steady_writes { H.IsSteady host.old → IsWritten result }
@@ -197,11 +184,8 @@ pub(crate) fn client_read<H: Host>(
     files: &Files,
     host: &mut H,
 ) -> Result<(), Stop>
-    requires first { 1 ≤ words.now.id }
-    requires last { words.now.id ≤ 64 }
-    requires regions { words.now.limits.regions ≤ 1024 }
-    requires schema { length files.now.schema < 2 ^ 32 }
-    requires script { length files.now.script < 2 ^ 32 }
+    requires words { IsClient words.now }
+    requires files { AreShort files.now }
     ensures whole { OnOk result (EndsOver H H.linking H.writing H.IsSteady host.old host.new files.now words.now Whole) }
     ensures stopped { IfErr result (StopsBy H H.linking H.writing H.IsSteady host.old host.new files.now words.now) }
     ensures steady_writes { H.IsSteady host.old → ¬ IsErrOf result (Refused Write) }

@@ -7,7 +7,7 @@ ghost use Rattle.sr_dial.specs.declared.ending.Ending.TheVariants.{Unwritten, Wh
 ghost use Rattle.sr_image.specs.Spelling.{image_bytes};
 ghost use Rattle.sr_query.specs.Bound.{is_table};
 ghost use Rattle.sr_talk.specs.Rounds.{OnlyOutput};
-ghost use Rattle.sr_words.specs.declared.command.ClientKind.TheVariants.{Client as AsClient};
+ghost use Rattle.sr_words.specs.Ranges.{IsClient, IsPlain};
 ghost use Rattle.sr_cli.specs.Client.{AreNotHeld, CountsStop};
 ghost use Rattle.sr_cli.specs.Image.{AreShortFiles, BreaksQuietly, EndsQuietly, IsSaved, LeavesEnd, SavesOf, SavesOver, StopsQuietly, StopsSaving, StopsSavingFiles, StopsSavingOf, Wrote, WroteLeft, has_image, held_image};
 ghost use Rattle.sr_cli.specs.Leaves.{Leaves, OnlyRuns};
@@ -43,11 +43,7 @@ struct Quiet {
 /// Runs the script that the words name without writing its lines, writes the image of what the client holds then, and answers the status
 /// to end with.
 pub(crate) fn run_save<H: Host>(alloc: Global, words: &ClientWords, host: &mut H) -> u8
-    requires kind { words.now.kind ≡ AsClient }
-    requires first { 1 ≤ words.now.id }
-    requires last { words.now.id ≤ 64 }
-    requires rows { words.now.limits.rows ≤ 200000 }
-    requires regions { words.now.limits.regions ≤ 1024 }
+    requires words { IsPlain words.now }
     ensures saves { SavesOver H H.held H.reading H.writing H.linking H.complaints H.IsSteady host.old host.new words.now result }
     ensures leaves { Leaves H H.held H.reading H.writing H.linking H.complaints H.IsSteady host.old host.new result }
 {
@@ -62,11 +58,7 @@ pub(crate) fn run_save<H: Host>(alloc: Global, words: &ClientWords, host: &mut H
 
 /// Reads the files that the words name, runs the script, and writes the image.
 fn save_files<H: Host>(alloc: Global, words: &ClientWords, host: &mut H) -> Result<(), Stop>
-    requires kind { words.now.kind ≡ AsClient }
-    requires first { 1 ≤ words.now.id }
-    requires last { words.now.id ≤ 64 }
-    requires rows { words.now.limits.rows ≤ 200000 }
-    requires regions { words.now.limits.regions ≤ 1024 }
+    requires words { IsPlain words.now }
     ensures whole { OnOk result (IsSaved H H.held H.linking H.writing H.IsSteady host.old host.new words.now Whole) }
     ensures stopped { IfErr result (StopsSaving H H.held H.reading H.linking H.writing H.IsSteady host.old host.new words.now) }
     ensures steady_reads { H.IsSteady host.old → IsErrOf result (Refused Read) → AreNotHeld (H.held host.old) words.now }
@@ -87,11 +79,7 @@ fn save_read<H: Host>(
     files: &Files,
     host: &mut H,
 ) -> Result<(), Stop>
-    requires kind { words.now.kind ≡ AsClient }
-    requires first { 1 ≤ words.now.id }
-    requires last { words.now.id ≤ 64 }
-    requires rows { words.now.limits.rows ≤ 200000 }
-    requires regions { words.now.limits.regions ≤ 1024 }
+    requires words { IsPlain words.now }
     requires files { AreShortFiles (H.held host.old) words.now files.now }
     ensures whole { OnOk result (IsSaved H H.held H.linking H.writing H.IsSteady host.old host.new words.now Whole) }
     ensures stopped { IfErr result (StopsSavingFiles H H.held H.linking H.writing H.IsSteady host.old host.new words.now) }
@@ -120,10 +108,7 @@ fn save_lines<H: Host, P: Plans>(
     plans: &mut P,
     host: &mut H,
 ) -> Result<(), Stop>
-    requires first { 1 ≤ words.now.id }
-    requires last { words.now.id ≤ 64 }
-    requires rows { words.now.limits.rows ≤ 200000 }
-    requires regions { words.now.limits.regions ≤ 1024 }
+    requires words { IsClient words.now }
     requires tables { IsTrue (list_all is_table schema.now) }
     requires asks { (ahead : Ahead) × P.follows schema.now plans.old ahead }
     requires few { P.depth plans.old < 2 ^ 40 }
@@ -170,10 +155,8 @@ fn run_quietly<H: Host, P: Plans>(
     plans: &mut P,
     host: &mut H,
 ) -> Result<Quiet, NoMemory>
-    requires first { 1 ≤ words.now.id }
-    requires last { words.now.id ≤ 64 }
+    requires words { IsClient words.now }
     requires tables { IsTrue (list_all is_table schema.now) }
-    requires regions { words.now.limits.regions ≤ 1024 }
     requires asks { (ahead : Ahead) × P.follows schema.now plans.old ahead }
     requires few { P.depth plans.old < 2 ^ 40 }
     ensures ran { (ahead : Ahead) → P.follows schema.now plans.old ahead

@@ -11,7 +11,7 @@ ghost use Rattle.sr_image.specs.Reading.{image_in};
 ghost use Rattle.sr_query.specs.Bound.{is_table};
 ghost use Rattle.sr_session.specs.Clients.{Client as Past};
 ghost use Rattle.sr_talk.specs.Rounds.{OnlyOutput};
-ghost use Rattle.sr_words.specs.declared.command.ClientKind.TheVariants.{Client as AsClient};
+ghost use Rattle.sr_words.specs.Ranges.{IsClient, IsPlain};
 ghost use Rattle.sr_cli.specs.Image.{AreNotWarmHeld, AreShortFiles, BeginsAs, CountsWarm, IsWarmed, RanOn, StopsOn, StopsWarming, StopsWarmingFiles, StopsWarmingOf, WarmsOf, WarmsOver, image_text, start_text};
 ghost use Rattle.sr_cli.specs.Files.{IsWhatIsHeld};
 ghost use Rattle.sr_cli.specs.Leaves.{Leaves, Names, OnlyComplains, OnlyRuns};
@@ -70,10 +70,7 @@ struct Begun {
 
 /// Runs the script that the words name as a client that starts from the image that they name, and answers the status to end with.
 pub(crate) fn run_warm<H: Host>(alloc: Global, words: &WarmWords, host: &mut H) -> u8
-    requires kind { words.now.client.kind ≡ AsClient }
-    requires first { 1 ≤ words.now.client.id }
-    requires last { words.now.client.id ≤ 64 }
-    requires regions { words.now.client.limits.regions ≤ 1024 }
+    requires words { IsPlain words.now.client }
     ensures warms { WarmsOver H H.held H.reading H.writing H.linking H.complaints H.IsSteady host.old host.new words.now result }
     ensures leaves { Leaves H H.held H.reading H.writing H.linking H.complaints H.IsSteady host.old host.new result }
 {
@@ -89,10 +86,7 @@ pub(crate) fn run_warm<H: Host>(alloc: Global, words: &WarmWords, host: &mut H) 
 
 /// Reads the files that the words name, the image last, and runs the script.
 fn warm_files<H: Host>(alloc: Global, words: &WarmWords, host: &mut H) -> Result<(), WarmStop>
-    requires kind { words.now.client.kind ≡ AsClient }
-    requires first { 1 ≤ words.now.client.id }
-    requires last { words.now.client.id ≤ 64 }
-    requires regions { words.now.client.limits.regions ≤ 1024 }
+    requires words { IsPlain words.now.client }
     ensures whole { OnOk result (IsWarmed H H.held H.linking H.writing H.IsSteady host.old host.new words.now Whole) }
     ensures stopped { IfErr result (StopsWarming H H.held H.reading H.linking H.writing H.IsSteady host.old host.new words.now) }
     ensures steady_reads { H.IsSteady host.old → IsErrOf result (Stopped (Refused Read)) → AreNotWarmHeld (H.held host.old) words.now }
@@ -117,10 +111,7 @@ fn warm_read<H: Host>(
     read: &WarmFiles,
     host: &mut H,
 ) -> Result<(), WarmStop>
-    requires kind { words.now.client.kind ≡ AsClient }
-    requires first { 1 ≤ words.now.client.id }
-    requires last { words.now.client.id ≤ 64 }
-    requires regions { words.now.client.limits.regions ≤ 1024 }
+    requires words { IsPlain words.now.client }
     requires files { AreShortFiles (H.held host.old) words.now.client read.now.files }
     requires image { IsWhatIsHeld (H.held host.old words.now.image) read.now.image }
     ensures whole { OnOk result (IsWarmed H H.held H.linking H.writing H.IsSteady host.old host.new words.now Whole) }
@@ -167,9 +158,7 @@ fn warm_from<H: Host, P: Plans>(
     plans: &mut P,
     host: &mut H,
 ) -> Result<(), Stop>
-    requires first { 1 ≤ words.now.id }
-    requires last { words.now.id ≤ 64 }
-    requires regions { words.now.limits.regions ≤ 1024 }
+    requires words { IsClient words.now }
     requires tables { IsTrue (list_all is_table schema.now) }
     requires image { IsTrue (is_image schema.now image) }
     requires read { (bytes : List ℕ) × (image_in schema.now bytes ≡ Ok image) }
@@ -253,9 +242,7 @@ fn begin(
     schema: &Schema,
     image: Image,
 ) -> Result<Begun, NoMemory>
-    requires first { 1 ≤ words.now.id }
-    requires last { words.now.id ≤ 64 }
-    requires regions { words.now.limits.regions ≤ 1024 }
+    requires words { IsClient words.now }
     requires tables { IsTrue (list_all is_table schema.now) }
     requires image { IsTrue (is_image schema.now image) }
     ensures begins { (bytes : List ℕ) → image_in schema.now bytes ≡ Ok image

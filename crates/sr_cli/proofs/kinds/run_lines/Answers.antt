@@ -24,7 +24,7 @@ run_new-requires-clause-asks g c =
 pub run_new-requires-clause-few : goal.run_new-requires-clause-few
 run_new-requires-clause-few g c =
     let few = rw c.as_slice-2.ensures at c.in-Ok.ensures.asked.asked.few in
-    let short = c.requires.script in
+    let short = c.requires.files.script in
     subst (λ (lines : List EventLine). length lines < 2 ^ 40) (sym c.new-plans.ensures) (omega (arith, few, short))
 
 pub returns-in-Ok-run_new-clause-ends : goal.returns-in-Ok-run_new-clause-ends

@@ -15,8 +15,7 @@ use Rattle.sr_cli.proofs.save.save_files.Goals as goal
 pub save_read-requires-clause-files : goal.save_read-requires-clause-files
 save_read-requires-clause-files g c = record {
   are = rw (sym c.read_files.ensures.stays.held_stays) at c.in-Ok.ensures.read;
-  schema = c.in-Ok.ensures.schema;
-  script = c.in-Ok.ensures.script;
+  short = c.in-Ok.ensures.short;
 }
 
 pub returns-in-Ok-clause-whole : goal.returns-in-Ok-clause-whole

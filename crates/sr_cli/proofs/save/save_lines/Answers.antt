@@ -9,7 +9,7 @@ use Rattle.sr_cli.proofs.ImageLemmas.{never-unwritten, saves-of, stops-of}
 use Rattle.sr_cli.proofs.save.save_lines.Goals as goal
 
 pub save_quiet-requires-clause-rows : goal.save_quiet-requires-clause-rows
-save_quiet-requires-clause-rows g c = subst (λ n. n ≤ 200000) (sym (ap (λ (l : Limits). l.rows) c.in-Ok.ensures.limits)) c.requires.rows
+save_quiet-requires-clause-rows g c = subst (λ n. n ≤ 200000) (sym (ap (λ (l : Limits). l.rows) c.in-Ok.ensures.limits)) c.requires.words.0.rows
 
 pub save_quiet-requires-clause-quiet : goal.save_quiet-requires-clause-quiet
 save_quiet-requires-clause-quiet g c =

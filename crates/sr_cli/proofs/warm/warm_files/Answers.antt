@@ -16,8 +16,7 @@ use Rattle.sr_cli.proofs.warm.warm_files.Goals as goal
 pub warm_read-requires-clause-files : goal.warm_read-requires-clause-files
 warm_read-requires-clause-files g c = record {
   are = rw (sym (c.read_file.ensures.stays.held_stays ∙ c.read_files.ensures.stays.held_stays)) at c.in-Ok.ensures.read;
-  schema = c.in-Ok.ensures.schema;
-  script = c.in-Ok.ensures.script;
+  short = c.in-Ok.ensures.short;
 }
 
 pub warm_read-requires-clause-image : goal.warm_read-requires-clause-image

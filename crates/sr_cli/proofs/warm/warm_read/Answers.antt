@@ -14,7 +14,7 @@ pub returns-in-Err-clause-stopped : goal.returns-in-Err-clause-stopped
 returns-in-Err-clause-stopped g c =
     let files = c.args.read.now.files in
     let words = c.args.words.now.client in
-    let is = ap (λ k. line_fault k words.id) c.requires.kind in
+    let is = ap (λ k. line_fault k words.id) c.requires.words.1 in
     let all = c.args.words.now in
     let held = g.H.Outside.held c.args.host.now in
     let steady = g.H.Outside.IsSteady c.args.host.now in
@@ -33,7 +33,7 @@ warm_from-requires-clause-asks g c =
 pub warm_from-requires-clause-few : goal.warm_from-requires-clause-few
 warm_from-requires-clause-few g c =
     let few = rw c.as_slice-2.ensures at c.in-Ok.ensures.asked.asked.few in
-    let short = c.requires.files.script in
+    let short = c.requires.files.short.script in
     subst (λ (lines : List EventLine). length lines < 2 ^ 40) (sym c.new-lines.ensures) (omega (arith, few, short))
 
 pub returns-in-Err-Refused-clause-stopped : goal.returns-in-Err-Refused-clause-stopped
